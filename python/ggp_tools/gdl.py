@@ -102,10 +102,7 @@ def must_be_literal(literal: Expression) -> None:
 
 def each_of(ways: list[list[Body]]) -> list[Body]:
     """Returns the ways to satisfy all of these conditions, each given by its own ways."""
-    count = 1
-    for alternatives in ways:
-        count *= len(alternatives)
-    if count > MOST_WAYS:
+    if math.prod(map(len, ways)) > MOST_WAYS:
         raise Refused(f"its `or`s can hold in more than {MOST_WAYS:,} ways", advice="give some of them a relation with rules")
     return [tuple(itertools.chain(*way)) for way in itertools.product(*ways)]
 
@@ -238,43 +235,26 @@ def reached(asks: Mapping[Relation, Iterable[Relation]], relations: Iterable[Rel
 
 def components(graph: Mapping[Expression, Iterable[Expression]]) -> list[list[Expression]]:
     """Returns the strongly connected components of a graph, each as a list, in topological order from below."""
-    indices, lows, stack, on_stack, components_found = {}, {}, [], set(), []
+    # Tarjan's algorithm without recursion. Nodes on the stack have places in it as their indices, and nodes of found components a higher one.
+    lows, stack, components_found = {}, [], []
     for start in graph:
-        open_nodes = [] if start in indices else [(start, iter(graph[start]))]
-        if open_nodes:
-            indices[start] = lows[start] = len(indices)
-            stack.append(start)
-            on_stack.add(start)
+        open_nodes = [] if start in lows else [(start, iter(graph[start]), len(stack))]
         while open_nodes:
-            node, others = open_nodes[-1]
-            for other in others:
-                if other not in graph:
-                    continue
-                if other not in indices:
-                    indices[other] = lows[other] = len(indices)
-                    stack.append(other)
-                    on_stack.add(other)
-                    open_nodes.append((other, iter(graph[other])))
-                    break
-                if other in on_stack:
-                    lows[node] = min(lows[node], indices[other])
-            else:
-                open_nodes.pop()
-                if open_nodes:
-                    above = open_nodes[-1][0]
-                    lows[above] = min(lows[above], lows[node])
-                if lows[node] == indices[node]:
-                    components_found.append(popped_until(node, stack))
-                    on_stack.difference_update(components_found[-1])
+            node, others, index = open_nodes[-1]
+            if node not in lows:
+                lows[node] = index
+                stack.append(node)
+            other = next((other for other in others if other in graph and other not in lows), None)
+            if other is not None:
+                open_nodes.append((other, iter(graph[other]), len(stack)))
+                continue
+            open_nodes.pop()
+            lows[node] = min([index, *(lows[other] for other in graph[node] if other in graph)])
+            if lows[node] == index:
+                components_found.append(stack[index:])
+                lows.update(dict.fromkeys(stack[index:], len(graph)))
+                del stack[index:]
     return components_found
-
-
-def popped_until(last: Expression, stack: list[Expression]) -> list[Expression]:
-    """Pops the elements of a stack down to `last`, and returns them in their order."""
-    popped = [stack.pop()]
-    while popped[-1] != last:
-        popped.append(stack.pop())
-    return popped[::-1]
 
 
 class Relations:

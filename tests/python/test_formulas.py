@@ -91,13 +91,6 @@ class OfFormulas(unittest.TestCase):
         twice = self.formulas.listed({fourth, no(any_of(three))})
         self.assertEqual((expression(twice)[0], self.formulas.shortest(twice)), ("or", fourth))
 
-    def test_what_is_put_in_the_place_of_atoms_stays_as_it_was(self):
-        a, b, c = self.atoms[:3]
-        by, known = {a: b}, {}
-        formula = self.formulas.no(self.formulas.any([a, self.formulas.no(c)]))
-        self.assertEqual(self.formulas.expression(self.formulas.replaced(formula, by, known)), ("not", ("or", STATE[1], ("not", STATE[2]))))
-        self.assertEqual((by, set(known)), ({a: b}, {a, c, self.formulas.no(c), self.formulas.any([a, self.formulas.no(c)]), formula}))
-
     def test_all_moves_of_a_role_together_are_true(self):
         for role, moves in MOVES.items():
             numbers = [self.formulas.atom(move) for move in moves]
@@ -171,17 +164,16 @@ class OfFormulas(unittest.TestCase):
                     return any(with_others(inner, world) for inner in inners)
             return places.get(expression, expression in world)
 
-        known = {}
         wanted = {at for at, world in enumerate(WORLDS) if with_others(self.formulas.expression(number), world)}
-        self.assertEqual(self.worlds(self.formulas.replaced(number, by, known)), wanted)
-        self.assertEqual(known[number], self.formulas.replaced(number, {}, known))
+        self.assertEqual(self.worlds(self.formulas.replaced(number, by, True)), wanted)
+        self.assertEqual(by[number], self.formulas.replaced(number, by, True))
 
     def test_a_renamed_formula_stands_as_it_does(self):
         one, other, third = self.atoms[:3]
         formula = self.formulas.no(self.formulas.any([one, self.formulas.no(self.formulas.any([other, third]))]))
         known = {one: third, other: self.atoms[3]}
         first, second = STATE[2], MOVES["r"][0]
-        self.assertEqual(self.formulas.expression(self.formulas.renamed(formula, known)), ("not", ("or", first, ("not", ("or", second, first)))))
-        self.assertEqual(self.formulas.renamed(third, known), third)
+        self.assertEqual(self.formulas.expression(self.formulas.replaced(formula, known, False)), ("not", ("or", first, ("not", ("or", second, first)))))
+        self.assertEqual(self.formulas.replaced(third, known, False), third)
         # If two become one, the `or` disappears.
-        self.assertEqual(self.formulas.renamed(self.formulas.any([one, other]), {one: third, other: third}), third)
+        self.assertEqual(self.formulas.replaced(self.formulas.any([one, other]), {one: third, other: third}, False), third)

@@ -1,20 +1,17 @@
-"""The grounder's input and output. The grounder is fake, or the real one if it is installed; the result of the real one is compared with a simple
-search for all instances."""
+"""The grounder's input and output. The grounder is fake."""
 
-import itertools
 import math
 import os
 import random
 import resource
-import shutil
 import unittest
 from unittest import mock
 
 from ggp_tools.instantiating import gringo
-from ggp_tools.instantiating.gringo import Grounder, LogicProgram, TooMany, TooSlow, level_count, limit_process, term_list, term_text
+from ggp_tools.instantiating.gringo import Grounder, LogicProgram, TooMany, TooSlow, limit_process, term_list, term_text
 from ggp_tools.gdl import Relations, all_rules
-from ggp_tools.kif import Refused, expressions, levels, put, relation, spelled, variables
-from support import InFolder
+from ggp_tools.kif import Refused, expressions
+from support import InFolder, raised
 
 
 def program_of(text):
@@ -39,13 +36,6 @@ class Terms(unittest.TestCase):
         for term, text in (("a", '"a"'), ('q"', '"q\\""'), ("b\\", '"b\\\\"'), (("f", "a"), '("f","a")'), (("f",), '("f",)'), ("?x", "V3"), (("f", ("g", "?x")), '("f",("g",V3))')):
             self.assertEqual(term_text(term, {"?x": "V3"}), text)
         self.assertEqual(term_list(""), [])
-
-    def test_how_deep_a_line_is(self):
-        dice = random.Random(8)
-        for _ in range(300):
-            term = made(dice)
-            self.assertEqual(level_count(f"p0({term_text(term, {})}).\n"), 1 + (levels(term) if isinstance(term, tuple) else 0), term)
-        self.assertEqual([level_count(line) for line in ("p0.", "p0(()())", "(()", 'p("(((")', "((a)(b))(((")], [0, 2, 2, 1, 3])
 
 
 class Programs(unittest.TestCase):
@@ -93,9 +83,8 @@ class Read(unittest.TestCase):
     def test_so_many_instances_are_taken(self):
         lines = ["i0.\n"] * 3
         self.assertEqual(len(list(self.grounder.read(lines))), 3)
-        with self.assertRaises(TooMany) as why:
-            list(self.grounder.read(["p0.\n", *lines, "i0.\n"]))
-        self.assertEqual((str(why.exception), gringo.MOST_INSTANCES), ("there are more than 3 instances", 1_000_000))
+        why = raised(TooMany, lambda: list(self.grounder.read(["p0.\n", *lines, "i0.\n"])))
+        self.assertEqual((str(why), gringo.MOST_INSTANCES), ("there are more than 3 instances", 1_000_000))
 
     def test_a_line_that_was_not_ended_is_no_instance(self):
         self.assertEqual(list(self.grounder.read(["i0.\n", 'i0("a"'])), [(0, [])])
@@ -106,9 +95,7 @@ class Read(unittest.TestCase):
 
         self.assertEqual(list(self.grounder.read([line(64), line(64, "i0"), 'p0("' + "(" * 99 + '").\n', "p0(" + "()," * 99 + "()).\n"]))[0][0], 0)
         for name in ("p0", "i0"):
-            with self.assertRaises(Refused) as why:
-                list(self.grounder.read([line(65, name)]))
-            self.assertEqual(str(why.exception), "a term is nested more than 64 lists deep")
+            self.assertEqual(str(raised(Refused, list, self.grounder.read([line(65, name)]))), "a term is nested more than 64 lists deep")
 
     def test_the_sentence_that_makes_the_most(self):
         self.assertIsNone(self.grounder.largest())
@@ -139,14 +126,11 @@ class Runs(InFolder):
             ("cat > /dev/null; echo 'a  b' >&2; echo c >&2; exit 65", "gringo refuses it: a b c"), ("cat > /dev/null; echo std::bad_alloc >&2; exit 33", "gringo took 2 GiB"),
             ("kill -9 $$", "gringo took 2 GiB"), (f"cat > /dev/null; echo {'x' * 400} >&2; exit 1", f"gringo refuses it: {'x' * 300}"), ("cat > /dev/null; echo bad_alloc >&2", "gringo took 2 GiB"),
         ):
-            with self.assertRaises(Refused) as why:
-                self.instances(script)
-            self.assertEqual(str(why.exception), words)
+            self.assertEqual(str(raised(Refused, self.instances, script)), words)
 
     def test_one_that_is_not_there(self):
-        with mock.patch.dict(os.environ, {"PATH": str(self.folder)}), self.assertRaises(Refused) as why:
-            Grounder(program_of("(d a)")).instances()
-        self.assertEqual(str(why.exception), "gringo is not installed")
+        with mock.patch.dict(os.environ, {"PATH": str(self.folder)}):
+            self.assertEqual(str(raised(Refused, Grounder(program_of("(d a)")).instances)), "gringo is not installed")
 
     def test_it_may_take_so_much_memory_and_so_many_seconds(self):
         for seconds, others in ((math.inf, []), (0.5, [(resource.RLIMIT_CPU, (1, 2))]), (60, [(resource.RLIMIT_CPU, (60, 61))])):
@@ -155,40 +139,4 @@ class Runs(InFolder):
             self.assertEqual([call.args for call in limited.call_args_list], [(resource.RLIMIT_AS, (2 << 30, 2 << 30)), *others])
 
     def test_one_that_has_used_its_seconds(self):
-        with self.assertRaises(TooSlow):
-            self.instances("kill -XCPU $$")
-
-    @unittest.skipUnless(shutil.which("gringo"), "gringo is not installed")
-    def test_instances_are_those_that_a_plain_way_finds(self):
-        text = """(role r) (role s) (d a) (d b) (d (f a)) (e a b) (e b (f a)) (<= (w ?x ?y) (e ?x ?y)) (<= (w ?x ?z) (w ?x ?y) (e ?y ?z)) (init (c a))
-        (<= (legal ?r (m ?x)) (role ?r) (w ?x ?y) (not (e ?x b))) (<= (legal ?r noop) (role ?r) (distinct ?r s)) (<= (t ?x) (true (c ?x)) (not (true (c ?y))) (d ?y))
-        (<= (next (c ?y)) (t ?x) (e ?x ?y) (does r (m ?z))) (<= terminal (t (f ?x)))"""
-        rules = all_rules(expressions(text))
-        program = program_of(text)
-        true, terms = set(), ["a", "b", ("f", "a"), "r", "s", "noop", ("m", "a"), ("m", "b")]
-
-        def holds(literal, values):
-            atom = put(literal.atom, values)
-            if literal.same:
-                return (atom[0] == atom[1]) == literal.positive
-            if literal.positive:
-                return atom in true or atom[0] == "true" and {("init", atom[1]), ("next", atom[1])} & true or atom[0] == "does" and ("legal", *atom[1:]) in true
-            # The negation of a relation that the grounder cannot evaluate may hold.
-            return relation(atom) in program.unsettled or atom not in true
-
-        def ways(rule):
-            names = list(variables((rule.head, *(literal.atom for literal in rule.body))))
-            found = (dict(zip(names, values)) for values in itertools.product(terms, repeat=len(names)))
-            return [values for values in found if all(holds(literal, values) for literal in rule.body)]
-
-        before = -1
-        while len(true) > before:
-            before = len(true)
-            # A negated relation that the grounder can evaluate comes before the rule that negates it.
-            for rule in rules:
-                true |= {put(rule.head, values) for values in ways(rule)}
-        wanted = {(number, tuple(values[name] for name in needed)) for number, (kept, needed) in enumerate(program.kept) for rule in rules if rule.sentence == kept.sentence for values in ways(rule)}
-        found = Grounder(program).instances()
-        self.assertEqual(({(number, tuple(listed)) for number, listed in found}, len(found)), (wanted, len(set(wanted))))
-        self.assertGreater(len(wanted), 8)
-        self.assertEqual(spelled(program.kept[0][0].head), "(role r)")
+        raised(TooSlow, self.instances, "kill -XCPU $$")

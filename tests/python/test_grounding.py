@@ -11,7 +11,8 @@ from ggp_tools.gdl import Literal, Relations, Rule, all_rules
 from ggp_tools.holding.reading import rules_of as interpreted
 from ggp_tools.instantiating.splitting import FEW_VARIABLES, MOST_LITERALS, split
 from ggp_tools.instantiating.for_players import text_for_players
-from ggp_tools.kif import Refused, expressions, put, spelled, variables
+from ggp_tools.kif import Refused, expressions, grouped, put, spelled, variables
+from support import raised
 
 
 def rules(text):
@@ -88,9 +89,8 @@ class Dependence(unittest.TestCase):
         for (name, head), (other, body) in itertools.product(heads.items(), asked.items()):
             for text, by, sentence in ((f"(<= {head} {body})", "", 0), (f"(<= x {body}) (<= {head} (not y)) (<= y x)", ", by y, x", 0)):
                 if (name, other) in wrong:
-                    with self.assertRaises(Refused) as why:
-                        Relations(rules(text)).refuse_dependence()
-                    self.assertEqual((str(why.exception), why.exception.sentence), (f"{name} depends on {other}{by}", sentence))
+                    why = raised(Refused, Relations(rules(text)).refuse_dependence)
+                    self.assertEqual((str(why), why.sentence), (f"{name} depends on {other}{by}", sentence))
                 else:
                     Relations(rules(text)).refuse_dependence()
 
@@ -99,10 +99,7 @@ class Circles(unittest.TestCase):
     """Cycles of sentences, and the number of rounds until everything is derived."""
 
     def rules_for(self, text):
-        found = {}
-        for rule in rules(text):
-            found.setdefault(rule.head, []).append(rule)
-        return found
+        return grouped(rules(text), lambda rule: rule.head)
 
     def test_components_are_what_can_be_reached_from_each_other_those_below_first(self):
         dice = random.Random(2)
@@ -123,9 +120,8 @@ class Circles(unittest.TestCase):
         self.assertEqual(rounds.circles(rules(text)), [["q", "r"], ["s"], ["v"]])
 
     def test_a_denial_of_itself_is_refused(self):
-        with self.assertRaises(Refused) as why:
-            rounds.unrolled(rules("(<= (p a) q) (<= q (p a) (not (p a)))"))
-        self.assertEqual(str(why.exception), "a cycle: q depends on itself through the negation of (p a)")
+        why = raised(Refused, rounds.unrolled, rules("(<= (p a) q) (<= q (p a) (not (p a)))"))
+        self.assertEqual(str(why), "a cycle: q depends on itself through the negation of (p a)")
         self.assertEqual(rounds.unrolled(rules("(<= p q (not r)) (<= q p)"))[1], [("p", 2, 1)])
 
     def last(self, text):
@@ -193,15 +189,11 @@ class Circles(unittest.TestCase):
         self.assertEqual([rule.sentence for rule in found], [4, 6, 0, 5, 1, 2, 1, 3, 3])
 
     def test_rounds_that_are_too_many_are_refused(self):
-        text = "(<= a b) (<= b c) (<= c a) (<= c (true s)) (<= d a)"
-        for most, is_refused in ((8, True), (9, False)):
-            with mock.patch.object(rounds, "MOST_RULES", most):
-                if not is_refused:
-                    rounds.unrolled(rules(text))
-                    continue
-                with self.assertRaises(Refused) as why:
-                    rounds.unrolled(rules(text))
-                self.assertEqual(str(why.exception), "a cycle of 3 sentences, such as a: its 3 rounds have more than 8 rules")
+        found = rules("(<= a b) (<= b c) (<= c a) (<= c (true s)) (<= d a)")
+        with mock.patch.object(rounds, "MOST_RULES", 9):
+            rounds.unrolled(found)
+        with mock.patch.object(rounds, "MOST_RULES", 8):
+            self.assertEqual(str(raised(Refused, rounds.unrolled, found)), "a cycle of 3 sentences, such as a: its 3 rounds have more than 8 rules")
         self.assertEqual(rounds.MOST_RULES, 2_000_000)
 
 
@@ -209,7 +201,7 @@ class Told(unittest.TestCase):
     GROUND = "(role x) (role o) (init a) (<= (next a) p) (next b) (legal x m) (legal o (n 1)) (legal x m)"
 
     def told(self, text, ground=GROUND):
-        return text_for_players(expressions(text), rules(ground)).splitlines()
+        return text_for_players(expressions(text), [rule.head for rule in rules(ground)]).splitlines()
 
     def test_roles_stand_first_as_facts_and_facts_of_base_and_input_last(self):
         self.assertEqual(self.told("(<= (role ?x) (player ?x)) (init a) (role z)"), [

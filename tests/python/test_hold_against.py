@@ -1,9 +1,6 @@
 """The command `ggp-hold-against` in this process: its arguments, its limits of time and memory, and its result for each record."""
 
-import argparse
-import contextlib
 import gzip
-import io
 import json
 import pathlib
 import resource
@@ -14,27 +11,18 @@ import unittest
 from unittest import mock
 
 from ggp_tools.holding import command
-from ggp_tools.holding.command import DIFFERENT, NOT_FOLLOWED, SAME, Holding, Late, hold, limit_memory, place_of, records_in
+from ggp_tools.holding.command import DIFFERENT, NOT_FOLLOWED, SAME, Holding, Late, hold, limit_memory, records_in
 from ggp_tools.kif import expressions
-from ggp_tools.streams import seconds
 from ground_matches import played
+from support import raised
 
 ONE_TURN = "(role ann) (init s) (legal ann go) (<= terminal (true t)) (goal ann 50) (<= (next t) (does ann go))"
 RECORD = json.dumps(played(expressions(ONE_TURN), 1))
 OTHER, WRONG = json.dumps({**json.loads(RECORD), "goalValues": [7]}), "{}"
-
-
 NO_KEY = """not followed: it is not a record: expected in cause: null, "asked", "toolong", "allretired", "nolegal R" or "nogoal R", where R is the number of a role, counted from 0; found: no such key"""
 
 
 class Words(unittest.TestCase):
-    def test_seconds(self):
-        self.assertEqual([seconds(text) for text in ("0.001", "1", "1000000", "1e6")], [0.001, 1, 1_000_000, 1_000_000])
-        for text in ("0", "-1", "1000000.1", "nan", "inf", "x", ""):
-            with self.assertRaises(argparse.ArgumentTypeError) as why:
-                seconds(text)
-            self.assertEqual(str(why.exception), f"{text} is not a number above 0 and up to 1,000,000")
-
     def test_what_is_given(self):
         for words, wanted in ((["d"], (60, "d", [])), (["--seconds", "2.5", "d", "r", "s"], (2.5, "d", ["r", "s"])), (["d", "r", "--seconds", "1", "-"], (1, "d", ["r", "-"]))):
             with mock.patch("sys.argv", ["x", *words]):
@@ -79,18 +67,9 @@ class Held(unittest.TestCase):
             for line, count in ((RECORD, 1), (OTHER, 1), (RECORD, 1), (WRONG, 1), (RECORD, 2), (RECORD, 2)):
                 holding.held(line)
                 self.assertEqual(len(read), count, line)
-            with mock.patch.object(command.Following, "follow", side_effect=Late), self.assertRaises(Late):
-                holding.held(RECORD)
+            with mock.patch.object(command.Following, "follow", side_effect=Late):
+                raised(Late, holding.held, RECORD)
             self.assertEqual((holding.held(RECORD), len(read)), ((SAME, "the same: 1 turn"), 3))
-
-    def test_where_a_fault_comes_from(self):
-        def inner():
-            raise ValueError
-
-        try:
-            inner()
-        except ValueError as why:
-            self.assertEqual(place_of(why), f"inner, line {inner.__code__.co_firstlineno + 1}")
 
 
 class Seconds(unittest.TestCase):
@@ -135,23 +114,3 @@ class Streams(unittest.TestCase):
             for file, data in zip(files, (b"a\n\n \n b\n", b"", gzip.compress(b"c"))):
                 file.write_bytes(data)
             self.assertEqual(list(records_in(map(str, files))), [b"a\n", b" b\n", b"c"])
-
-    def main(self, *lines, text=ONE_TURN):
-        """Runs the command. Returns the exit status, the output lines and the errors."""
-        with tempfile.TemporaryDirectory() as room:
-            (description := pathlib.Path(room) / "d").write_text(text)
-            (records := pathlib.Path(room) / "r").write_text("".join(f"{line}\n" for line in lines))
-            out, said = io.StringIO(), io.StringIO()
-            with mock.patch("sys.argv", ["x", str(description), str(records)]), contextlib.redirect_stdout(out), contextlib.redirect_stderr(said):
-                with mock.patch.object(command, "limit_memory"), mock.patch.object(command.sys, "setrecursionlimit"):
-                    return command.main(), out.getvalue().splitlines(), said.getvalue()
-
-    def test_the_worst_of_all_is_the_status(self):
-        for lines, status in (((), 0), ((RECORD,), 0), ((RECORD, WRONG), 3), ((WRONG, RECORD, OTHER), 1), ((OTHER, RECORD), 1)):
-            found, out, said = self.main(*lines)
-            self.assertEqual((found, len(out), said), (status, len(lines), ""), lines)
-
-    def test_a_fault_of_a_file(self):
-        for fault, words in ((OSError(5, "bad", "f"), "f: bad"), (OSError(5, "bad"), "bad"), (MemoryError(), "out of memory")):
-            with mock.patch.object(command, "hold", side_effect=fault):
-                self.assertEqual(self.main(RECORD), (2, [], f"ggp-hold-against: {words}\n"))

@@ -13,34 +13,18 @@ from ggp_tools.instantiating import folding, gringo, limits, making, rounds
 from ggp_tools.instantiating.grounding import sentence_of
 from ggp_tools.gdl import GAME, Literal, Rule, all_rules
 from ggp_tools.kif import Refused, expressions, spelled
-from support import GAMES
+from support import GAMES, outside, raised
+
+ground_games = outside("ground_games")
 
 STATE = ["a", "b", "c", "d"]
 MOVES = {"r": ["m1", "m2", "m3", "m4"], "s": ["n1", "n2"]}
 
 
 def holds(sentences, state, joint):
-    """Returns the true ground sentences, by deriving until nothing is new. Negations must be of earlier sentences."""
-    true = {("true", term) for term in state} | set(joint)
-    bodies = {}
-    for sentence in sentences:
-        head, body = (sentence[1], sentence[2:]) if sentence[0] == "<=" else (sentence, ())
-        bodies.setdefault(head, []).append(body)
-    known = {}
-
-    def is_true(literal):
-        match literal:
-            case ("not", inner):
-                return not is_true(inner)
-            case ("or", *inners):
-                return any(map(is_true, inners))
-            case ("true", _) | ("does", _, _):
-                return literal in true
-        if literal not in known:
-            known[literal] = any(all(map(is_true, body)) for body in bodies.get(literal, ()))
-        return known[literal]
-
-    return {head for head in bodies if is_true(head)}
+    """Returns the true ground sentences, by the oracle."""
+    game = ground_games.Game(sentences)
+    return set(filter(game.question(set(state), {role: move for _, role, move in joint}), game.rules))
 
 
 def dice_game(dice):
@@ -68,15 +52,6 @@ def folded(rules, most_sentences, most_bytes):
     return game
 
 
-def refused(rules, most_sentences, most_bytes):
-    """Returns why a game is not factored at all."""
-    try:
-        folding.begun(rules).must_have_room(folding.Target(most_sentences, most_bytes))
-    except folding.Hopeless as why:
-        return str(why)
-    return None
-
-
 def own(heads):
     return {head for head in heads if (head if isinstance(head, str) else head[0]) in GAME}
 
@@ -89,6 +64,7 @@ class Folding(unittest.TestCase):
             for most in 10_000, 0:
                 found = [sentence for _, sentence in folded(rules, most, most).written()]
                 self.compare(plain, found, seed)
+                self.assertEqual(legal_heads(plain), legal_heads(found), seed)
 
     def test_it_is_folded_to_the_first_target_that_it_can_be_within(self):
         rules = dice_game(random.Random(0))
@@ -98,9 +74,8 @@ class Folding(unittest.TestCase):
         too_short = small._replace(bytes=folding.begun(rules).bytes() // 2 - 1, work=1_000_000)
         for target in (too_short, small._replace(work=1), small._replace(work=folding.begun(rules).formulas.work * folding.MORE_WORK), folding.Target(3, 10)):
             self.assertEqual(folding.folded(rules, [target, large]).sentences(), 42, target)
-        with self.assertRaises(folding.Hopeless) as why:
-            folding.folded(rules, [folding.Target(3, 10), small._replace(work=1)])
-        self.assertEqual(str(why.exception), "factoring takes more than 1 steps")
+        why = raised(folding.Hopeless, folding.folded, rules, [folding.Target(3, 10), small._replace(work=1)])
+        self.assertEqual(str(why), "factoring takes more than 1 steps")
         # Without a further target the result is returned although it exceeds this one.
         self.assertEqual(folding.folded(rules, [folding.Target(20, 100)]).sentences(), 20)
 
@@ -109,15 +84,19 @@ class Folding(unittest.TestCase):
         text += " ".join(f"(<= p{k} (true a) (true b{k})) (<= p{k} (not (true c)) (true d{k}) (true e{k}))" for k in range(9))
         rules = all_rules(expressions(text))
         by_dice = dice_game(random.Random(0))
-        self.assertIsNone(refused(by_dice, folded(by_dice, 10_000, 1 << 20).sentences(), 1 << 20))
+        folding.begun(by_dice).must_have_room(folding.Target(folded(by_dice, 10_000, 1 << 20).sentences(), 1 << 20))
+        game = folding.begun(rules)
         for most, most_bytes, words in (
             (8, 500, "sentences (at least 9 of 8)"), (9, 1_121, "bytes (at least 1,122 of 1,121, because 9 of 18 sentences must be inlined)"),
             (12, 500, "bytes (at least 828 of 500, because 6 of 18 sentences must be inlined)"),
-            (17, 0, "bytes (at least 434 of 0, because 1 of 18 sentences must be inlined)"), (9, 1_122, None), (18, 0, None),
+            (17, 0, "bytes (at least 434 of 0, because 1 of 18 sentences must be inlined)"),
         ):
-            self.assertEqual(refused(rules, most, most_bytes), words)
+            self.assertEqual(str(raised(folding.Hopeless, game.must_have_room, folding.Target(most, most_bytes))), words)
+        for most, most_bytes in ((9, 1_122), (18, 0)):
+            game.must_have_room(folding.Target(most, most_bytes))
         with unittest.mock.patch.object(folding, "MOST_DEEP", 6):
-            self.assertEqual(refused(rules, 12, 1 << 20), "sentences (at least 18 of 12)")
+            why = raised(folding.Hopeless, folding.begun(rules).must_have_room, folding.Target(12, 1 << 20))
+        self.assertEqual(str(why), "sentences (at least 18 of 12)")
 
     def test_what_games_by_dice_come_to(self):
         # Sentences, bytes and the beginning of the checksum of the text: any change of factoring shows here.
@@ -192,10 +171,6 @@ class Folding(unittest.TestCase):
         text = spelled(game.formulas.expression(game.factored(bodies)))
         self.assertEqual([text.count(f"(true {k})") for k in range(10)], [1, 1, 1, 1, 1, 1, 1, 3, 2, 1])
 
-    def test_how_often_formulas_stand_in_the_text(self):
-        self.assertEqual(folding.Folded(all_rules(expressions("(<= (next a) (true b)) (<= (next c) (not (or p q)))"))).uses(), [0, 0, 0, 1, 0, 1, 1, 1, 1])
-        self.assertEqual(folding.Folded(all_rules(expressions("(<= (next a) (not p))"))).uses(), [0, 0, 0, 1, 1])
-
     def test_the_sentences_that_cost_most(self):
         # A frame rule of many moves becomes one short sentence, and the rule that sets the cell stays long.
         moves = "".join(f"(legal r (m {k}))" for k in range(9))
@@ -232,22 +207,6 @@ class Folding(unittest.TestCase):
                 for move, answer in itertools.product(MOVES["r"], MOVES["s"]):
                     joint = [("does", "r", move), ("does", "s", answer)]
                     self.assertEqual(own(holds(plain, state, joint)), own(holds(found, state, joint)), seed)
-
-    def test_legal_moves_keep_their_order(self):
-        for seed in range(20):
-            rules = dice_game(random.Random(seed))
-            found = [sentence for _, sentence in folded(rules, 0, 0).written()]
-            self.assertEqual(legal_heads([sentence_of(rule) for rule in rules]), legal_heads(found))
-
-    def test_frames_become_short(self):
-        moves = [f"m{k}" for k in range(100)]
-        rules = [Rule(0, ("role", "r"), ())] + [Rule(1, ("legal", "r", move), ()) for move in moves]
-        for cell, away in enumerate(moves):
-            body = Literal(True, ("true", ("c", str(cell))))
-            rules += [Rule(2, ("next", ("c", str(cell))), (body, Literal(True, ("does", "r", other)))) for other in moves if other != away]
-        found = [sentence for _, sentence in folded(rules, 10_000, 10_000_000).written()]
-        self.assertEqual(len(found), 201)
-        self.assertIn(("<=", ("next", ("c", "7")), ("true", ("c", "7")), ("not", ("does", "r", "m7"))), found)
 
 
 def legal_heads(sentences):
@@ -305,14 +264,6 @@ class Rounds(unittest.TestCase):
                 rules.append(Rule(2, ("w", way[0], onward[1]), tuple(Literal(True, half) for half in both)))
         self.compare(rules, self.unrolled(rules, 11), ["04", "41", "12", "20"])
 
-    def test_sentences_keep_their_places(self):
-        # The first rules of a and b derive nothing new: the sentences keep the places of these rules.
-        asked = [(1, "a", "b"), (2, "b", "b"), (3, "c", "d"), (4, "b", "c"), (5, "d", "a"), (6, "c", "s")]
-        rules = [Rule(number, head, (Literal(True, ("true", asked_for) if asked_for == "s" else asked_for),)) for number, head, asked_for in asked]
-        found, _ = rounds.unrolled(rules)
-        places = {head: min(rule.sentence for rule in found if rule.head == head) for head in "abcd"}
-        self.assertEqual(places, {"a": 1, "b": 2, "c": 3, "d": 5})
-
     def test_stones_need_fewer_rounds(self):
         # Four by four cells of six neighbours, and the stones that are joined to the first row.
         cells = list(itertools.product(range(4), repeat=2))
@@ -359,28 +310,22 @@ def least(rules, state):
 
 
 class Texts(unittest.TestCase):
-    def refusal(self, text, seconds=60):
-        with self.assertRaises(Refused) as why:
-            making.Making(text, seconds, making.NEVER).run()
-        return str(why.exception)
-
     def test_refusals_say_which_sentence_makes_the_most(self):
         text = "(role r) (d 1) (d 2) (d 3) (<= (legal r (m ?a ?b)) (d ?a) (d ?b)) (init s)"
+        first, second = (making.Making(text, 60, making.NEVER) for _ in range(2))
         with unittest.mock.patch.object(gringo, "MOST_INSTANCES", 5):
-            said = "there are more than 5 instances; the most instances, "
-            self.assertEqual(self.refusal(text)[: len(said)], said)
+            self.assertRegex(str(raised(Refused, first.run)), "^there are more than 5 instances; the most instances, ")
         with unittest.mock.patch.object(making, "all_rules", lambda *_: signal.raise_signal(signal.SIGPROF)):
-            self.assertEqual(self.refusal(text), "stopped after 60 s, reading it")
+            self.assertEqual(str(raised(Refused, second.run)), "stopped after 60 s, reading it")
 
     def test_rounds_that_are_too_many_are_said(self):
-        text = (GAMES / "general/hex.kif").read_text()
-        with unittest.mock.patch.dict(limits.MOST, {"sentences": 100}), unittest.mock.patch.dict(limits.LARGE, {"sentences": 100}), self.assertRaises(Refused) as why, contextlib.redirect_stderr(io.StringIO()):
-            making.Making(text, 60, making.WHERE_NEEDED).run()
-        said = "nothing is written, because this exceeds the limit however it is factored: sentences (at least "
-        self.assertEqual(str(why.exception)[: len(said)], said)
-        self.assertIn(" ground sentences, because 2 cycles of sentences are unrolled, the largest, of 25 sentences with (joined ", str(why.exception))
+        few = {"sentences": 100}
+        with unittest.mock.patch.dict(limits.MOST, few), unittest.mock.patch.dict(limits.LARGE, few), contextlib.redirect_stderr(io.StringIO()):
+            said = str(raised(Refused, making.Making((GAMES / "general/hex.kif").read_text(), 60, making.WHERE_NEEDED).run))
+        self.assertTrue(said.startswith("nothing is written, because this exceeds the limit however it is factored: sentences (at least "), said)
+        self.assertIn(" ground sentences, because 2 cycles of sentences are unrolled, the largest, of 25 sentences with (joined ", said)
         # There are more unrolled sentences than instances of any sentence.
-        self.assertNotIn("the most instances", str(why.exception))
+        self.assertNotIn("the most instances", said)
 
     def test_few_instances_are_tried_first(self):
         text = "(role r) (d 1) (d 2) (d 3) (<= (legal r (m ?a ?b ?c)) (d ?a) (d ?b) (d ?c) (true s)) (init s)"

@@ -6,14 +6,14 @@ from ggp_tools.kif import (
     MOST_LEVELS, KifFault, Refused, atoms, expressions, fresh, fresh_before_digits, levels, place, place_of, put, relation, spelled, starts, told,
     variables,
 )
+from support import raised
 
 
 class Texts(unittest.TestCase):
     def assert_fault(self, text, words, index):
         for read in (expressions, starts):
-            with self.assertRaises(KifFault) as why:
-                read(text)
-            self.assertEqual((str(why.exception), why.exception.index), (words, index))
+            why = raised(KifFault, read, text)
+            self.assertEqual((str(why), why.index), (words, index))
 
     def test_atoms_and_lists_in_lower_case(self):
         self.assertEqual(expressions(" A (b\t(C d)\r\n()) e"), ["a", ("b", ("c", "d"), ()), "e"])
@@ -59,9 +59,8 @@ class Texts(unittest.TestCase):
         self.assertEqual(MOST_LEVELS, 64)
         deep = "(" * 64 + ")" * 64
         self.assertEqual(levels(expressions(f"{deep} {deep}")[1]), 64)
-        with self.assertRaises(KifFault) as why:
-            expressions(f"a ({deep})")
-        self.assertEqual((str(why.exception), why.exception.index), ("lists are nested more than 64 deep", 2 + 64))
+        why = raised(KifFault, expressions, f"a ({deep})")
+        self.assertEqual((str(why), why.index), ("lists are nested more than 64 deep", 2 + 64))
 
     def test_a_place_is_told_by_line_and_column(self):
         text = "ab\n\ncd"

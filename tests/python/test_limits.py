@@ -7,11 +7,11 @@ from collections import Counter
 from unittest import mock
 
 from ggp_tools.instantiating import gringo, limits
-from ggp_tools.instantiating.endless import endless, fits
-from ggp_tools.instantiating.limits import atoms_of, costs_of, dearest, is_high, refuse_faults, without_high_goals
+from ggp_tools.instantiating.limits import atoms_of, costs_of, dearest, endless, is_high, refuse_faults, without_high_goals
 from ggp_tools.instantiating.making import NEVER, Making
 from ggp_tools.gdl import Literal, Rule, all_rules
-from ggp_tools.kif import Refused, expressions, put, told, variables
+from ggp_tools.kif import Refused, expressions, fits, put, told, variables
+from support import raised
 
 
 def rules(text):
@@ -32,9 +32,8 @@ class Goals(unittest.TestCase):
 
     def test_a_rule_that_asks_for_a_high_goal_is_refused(self):
         for body in ("(goal r 101)", "(not (goal r 101))", "p (goal r 101)"):
-            with self.assertRaises(Refused) as why:
-                without_high_goals(rules(f"(goal r 1) (<= terminal {body})"))
-            self.assertEqual(str(why.exception), "terminal uses (goal r 101), and a goal is a number from 0 to 100")
+            why = raised(Refused, without_high_goals, rules(f"(goal r 1) (<= terminal {body})"))
+            self.assertEqual(str(why), "terminal uses (goal r 101), and a goal is a number from 0 to 100")
 
 
 class Faults(unittest.TestCase):
@@ -60,9 +59,8 @@ class Faults(unittest.TestCase):
         self.assertEqual(self.refused(""), "there is no role; write (role NAME) for each role")
         self.assertEqual(self.refused("(role r) (<= (role s) p)"), "line 1, column 10: (role s) is not known before the game: (<= (role s) p); make it a fact")
         secret = "the role `random` is of GDL-II, games with chance or with what some can't see; here each role sees every move"
-        with self.assertRaises(Refused) as why:
-            refuse_faults([Rule(0, ("role", "random"), (Literal(True, "p"),))])
-        self.assertEqual((str(why.exception), why.exception.sentence), (secret, 0))
+        why = raised(Refused, refuse_faults, [Rule(0, ("role", "random"), (Literal(True, "p"),))])
+        self.assertEqual((str(why), why.sentence), (secret, 0))
 
 
 class Figures(unittest.TestCase):

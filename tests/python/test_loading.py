@@ -4,14 +4,13 @@ import hashlib
 import os
 import pathlib
 import subprocess
-import tempfile
-import unittest
 from unittest import mock
 
 from ggp_tools.descriptions import loading
 from ggp_tools.instantiating.limits import LARGE_NOTE
 from ggp_tools.descriptions.loading import NoDescription, Stopped, load_described, load_description, notes_of, read_text
 from ggp_tools.referee import BadRules
+from support import InFolder, raised
 
 GROUND = b"; a comment\n(role x) (init a) (legal x m) (<= (next a) (true a)) (goal x 1)\n"
 DEPENDS = "legal depends on does: (<= (legal x ?m) (does x ?m)); let `next` keep what the moves did, and ask for that by `true`"
@@ -41,9 +40,9 @@ def arguments(command):
     return command[command.index("ggp_tools.instantiating") + 1 :]
 
 
-class Loading(unittest.TestCase):
+class Loading(InFolder):
     def setUp(self):
-        self.folder = pathlib.Path(self.enterContext(tempfile.TemporaryDirectory()))
+        super().setUp()
         self.enterContext(mock.patch.dict(os.environ, {"XDG_CACHE_HOME": str(self.folder / "cache")}))
         self.path, self.beside = self.folder / "-game.kif", self.folder / "beside.kif"
         self.runs, self.made = [], (GROUND, b"", 0)
@@ -70,9 +69,8 @@ class Loading(unittest.TestCase):
         return mock.patch("ggp_tools.descriptions.loading.subprocess.run", run)
 
     def assert_refused(self, words, ask, *asked, kind=NoDescription):
-        with self.assertRaises(NoDescription) as why:
-            ask(*asked)
-        self.assertEqual((str(why.exception), type(why.exception)), (words, kind))
+        why = raised(NoDescription, ask, *asked)
+        self.assertEqual((str(why), type(why)), (words, kind))
 
     def test_ground_rules_are_taken_as_they_are(self):
         referee = Takes()
@@ -112,11 +110,8 @@ class Loading(unittest.TestCase):
     def test_texts_that_are_no_descriptions(self):
         for text, words in (
             (b"", "line 1, column 1: there is no sentence"), (b" ; (\n", "line 1, column 1: there is no sentence"), (b"(role x)\n (a", "line 2, column 2: a list that is not closed; add a `)`"),
-            (b"(role x)\n\xe9", "line 2, column 1: a byte that is not a character of KIF: '\xe9'; write it in ASCII, or in a comment"), (b"(role x)\n (<= p (not (q ?x)))", None), (b"(role x)\n\n  (<= (legal x ?m) (does x ?m))", f"line 3, column 3: {DEPENDS}"),
+            (b"(role x)\n\n  (<= (legal x ?m) (does x ?m))", f"line 3, column 3: {DEPENDS}"),
         ):
-            if words is None:
-                unsafe = "?x is unsafe: no sentence of the body that is not negated has it"
-                words = f"line 2, column 2: {unsafe}: (<= p (not (q ?x))); add a condition with ?x that is not negated"
             self.assert_refused(words, self.load, text)
 
     def test_a_file_is_read_up_to_its_limit(self):

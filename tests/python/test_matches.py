@@ -4,6 +4,7 @@ import unittest
 
 from ggp_tools.holding.game import Game
 from ggp_tools.holding.match import MOST_TURNS, Match, texts_of
+from support import raised
 
 # Each role shows a side once. Red can move in state 2 too, but blue has no move there.
 SHOW = """
@@ -54,24 +55,10 @@ class Rules(unittest.TestCase):
             found, position = self.position(term)
             self.assertEqual((found.is_over(position), (found.goals(position, "red"), found.goals(position, "blue"))), (is_over, goals), term)
 
-    def test_a_chain_of_rules_may_be_long(self):
-        count = 300
-        chain = "".join(f"(<= (p {at}) (p {at + 1}))" for at in range(count)) + f"(p {count}) (<= terminal (p 0))"
-        found = Game(chain)
-        self.assertTrue(found.is_over(found.position(frozenset())))
-
     def test_a_body_asks_for_what_the_game_asks_too(self):
         found = Game("(role r) (init s) (<= (legal r a) (true s)) (<= (legal r b) (not (legal r c)) (legal r a)) (<= (goal r 1) (role r) (not (goal r 2))) (<= terminal (not (not terminal_too))) (<= terminal_too terminal_three) terminal_three")
         position = found.position(found.initial)
         self.assertEqual((found.moves(position, "r"), found.goals(position, "r"), found.is_over(position)), (["a", "b"], [1], True))
-
-    def test_ors_in_one_another_are_tested_as_they_stand(self):
-        # Without `or` this would be 2 ** 40 rules.
-        ors = " ".join(f"(or (and (true a{at}) (not (or (true b{at}) (true c{at})))) (true d{at}))" for at in range(40))
-        found = Game(f"(role r) (<= terminal {ors})")
-        state = {f"a{at}" for at in range(40)}
-        for more, is_over in (((), True), (("b7",), False), (("b7", "d7"), True), (("c39",), False)):
-            self.assertEqual(found.is_over(found.position(frozenset(state | set(more)))), is_over, more)
 
 
 class Matches(unittest.TestCase):
@@ -89,9 +76,7 @@ class Matches(unittest.TestCase):
 
     def test_a_match_wants_a_player_for_each_role(self):
         for players in ([], ["ann"], ["ann", "bob", "cid"]):
-            with self.assertRaises(ValueError) as why:
-                Match(game(), "m", 1, 1, players)
-            self.assertEqual(str(why.exception), f"{len(players)} players for 2 roles")
+            self.assertEqual(str(raised(ValueError, Match, game(), "m", 1, 1, players)), f"{len(players)} players for 2 roles")
 
     def test_phases_of_a_match_that_is_played_to_its_end(self):
         self.assertEqual(self.match.phase(), ("starting", None))

@@ -1,28 +1,24 @@
 """A match that shows an error in ground rules detects this error; no earlier step does.
 
 Ten games of different kinds get an error each: a missing rule, two swapped moves, a goal that is off by one, or a rule without its last literal. In
-the game with a cycle, the cycle is unrolled in half of its rounds. The place of the error is random, and matches under the wrong rules are played
-until one reaches it: its answers give a different record under the right rules. No random match needs that many rounds of a cycle, so in this game
-red's stones are fixed: they wind from side to side. The program loads the wrong rules, plays the match, finds the record lawful, and reproduces it
-from the call log, so the program does not notice the error. `ggp-hold-against` must find the error, and must find none in the record under the right
-rules."""
+the game with a cycle, the cycle is unrolled in half of its rounds. The place of the error is random, and matches by the wrong rules are played until
+one reaches it: its answers make another record by the right rules. No random match needs that many rounds of a cycle, so there red's stones are
+given, which wind from side to side. The referee plays and checks by the same wrong rules, so it cannot notice the error. `ggp-hold-against` must find it,
+and none in the record by the right rules."""
 
 import functools
 import json
 import random
 import shutil
-import subprocess
-import tempfile
 import unittest
 from collections.abc import Callable
 from unittest import mock
 
 from ggp_tools.holding.command import DIFFERENT, SAME, Holding
 from ggp_tools.instantiating import making, rounds
-from ggp_tools.kif import Expression, relation, spelled
+from ggp_tools.kif import Expression, relation
 from ggp_tools.printable import counted
 from ground_matches import Record, Sentences, begun, description, ended, instantiated, played, played_again
-from support import program
 
 PLANTED_IN = "tictactoe", "nim", "connectfour", "auction", "minority", "hanoi", "river", "prisoners", "foxandhounds", "hex"
 WITH_A_CYCLE = "hex"
@@ -112,59 +108,21 @@ def wound(sentences: Sentences) -> Record:
     return ended(match)
 
 
-def reached(name: str, plant: Plant) -> tuple[Sentences, Record, Record]:
-    """Returns wrong rules, and the records of a match that reaches the error: under these rules, and under the right rules."""
+def reached(name: str, plant: Plant) -> tuple[Record, Record]:
+    """Returns the records of a match that reaches the error, by the wrong and by the right rules."""
     for number in range(TRIES):
-        wrong = plant(name, random.Random(f"{name} {number}"))
-        record = played(wrong, number)
+        record = played(plant(name, random.Random(f"{name} {number}")), number)
         right = played_again(right_rules(name), record)
         if record != right:
-            return wrong, record, right
+            return record, right
     raise AssertionError(f"{name}: no match reaches what {plant.__name__} plants")
-
-
-def script_of(record: Record) -> list[str]:
-    """Returns the script from which `desk` makes this record."""
-    name, roles = record["matchId"], range(len(record["roles"]))
-    lines = [f"open {name} 0 {record['startClock']} {record['playClock']} {' '.join(record['players'])}"]
-    lines += [f"submit {name} {role} 0 READY" for role in roles]
-    for number, (moves, errors) in enumerate(zip(record["moves"], record["errors"]), 1):
-        for role, move, error in zip(roles, moves, errors):
-            answer = error.removeprefix("IL ") if error.startswith("IL ") else move
-            lines.append(f"miss {name} {role} {number} silent" if error == "TO" else f"submit {name} {role} {number} {answer}")
-    if record["phase"] in ("finished", "aborted"):
-        lines += [f"submit {name} {role} {len(record['moves']) + 1} DONE" for role in roles]
-    return lines
-
-
-def asked(command: str, rules: str, data: str) -> list[str]:
-    """Returns the output of the program with these rules."""
-    done = subprocess.run([program(), command, "--rules-file", rules], input=data, stdout=subprocess.PIPE, text=True, check=True)
-    return done.stdout.splitlines()
-
-
-def made_by_program(sentences: Sentences, record: Record) -> str:
-    """Returns the record that the program makes of the same answers under these rules. The program must accept and replay it."""
-    with tempfile.NamedTemporaryFile("w", suffix=".kif") as file:
-        file.write("".join(f"{spelled(sentence)}\n" for sentence in sentences))
-        file.flush()
-        script = script_of(record)
-        *replies, line = asked("desk", file.name, "".join(f"{text}\n" for text in script))
-        if replies != ["opened", *["taken"] * (len(script) - 1)]:
-            raise AssertionError(f"the desk does not take the match: {replies}")
-        account = "".join(f"0\t{call}\t{reply}\n" for call, reply in zip(script, replies))
-        if asked("verify", file.name, line) != ["lawful"] or asked("replay", file.name, account)[1:] != [line]:
-            raise AssertionError("the program refuses a match of its own")
-        return line
 
 
 @unittest.skipUnless(shutil.which("gringo"), "gringo is not installed")
 class Planted(unittest.TestCase):
-    def assert_found(self, name: str, wrong: Sentences, record: Record, right: Record) -> None:
-        """Checks that the error is found in the program's record, and no error in the right record."""
-        line = made_by_program(wrong, record)
-        self.assertEqual({key: json.loads(line)[key] for key in ("moves", "errors", "states", "goalValues")}, {key: record[key] for key in ("moves", "errors", "states", "goalValues")})
-        status, words = holding(name).held(line)
+    def assert_found(self, name: str, record: Record, right: Record) -> None:
+        """Checks that the error is found in the wrong record, and nothing in the right one."""
+        status, words = holding(name).held(json.dumps(record))
         self.assertEqual((status, words.partition(":")[0]), (DIFFERENT, "differs"), words)
         self.assertEqual(holding(name).held(json.dumps(right)), (SAME, f"the same: {counted(len(right['moves']), 'turn')}"))
 
@@ -186,7 +144,6 @@ class Planted(unittest.TestCase):
         self.assert_each_is_found(without_last_literal, tuple(name for name in PLANTED_IN if name != WITH_A_CYCLE))
 
     def test_half_the_rounds_of_a_cycle(self):
-        wrong = in_half_the_rounds(WITH_A_CYCLE)
-        record, right = wound(wrong), wound(right_rules(WITH_A_CYCLE))
+        record, right = wound(in_half_the_rounds(WITH_A_CYCLE)), wound(right_rules(WITH_A_CYCLE))
         self.assertEqual((record["phase"], right["phase"], right["goalValues"]), ("playing", "finished", [100, 0]))
-        self.assert_found(WITH_A_CYCLE, wrong, record, right)
+        self.assert_found(WITH_A_CYCLE, record, right)

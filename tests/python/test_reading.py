@@ -1,6 +1,5 @@
 """How records are followed: parsing of rules, query plans, compilation, and reports."""
 
-import random
 import re
 import sys
 import unittest
@@ -8,13 +7,13 @@ from unittest import mock
 
 from ggp_tools.gdl import all_rules
 from ggp_tools.holding import compiling
-from ggp_tools.holding.following import Following
 from ggp_tools.holding.game import Game
 from ggp_tools.holding.planning import Sizes, is_known, is_test
-from ggp_tools.holding.positions import Index, Position, Tables, Whole, by_functor, index_of
+from ggp_tools.holding.positions import Position, Whole, functor_of, index_of
 from ggp_tools.holding.reading import Asked, Either, NotFollowed, Rule, Same, is_built, low, rules_of, term_of, tests_of, variables_of
 from ggp_tools.holding.relations import Relations
-from ggp_tools.kif import KifFault, Refused, expressions, place
+from ggp_tools.kif import KifFault, Refused, expressions, grouped
+from support import raised
 
 
 def rules(text):
@@ -32,9 +31,7 @@ class Terms(unittest.TestCase):
 
     def test_a_text_is_one_term(self):
         for text in ("", "a b", "(a) b", " ; a"):
-            with self.assertRaises(NotFollowed) as why:
-                term_of(text)
-            self.assertEqual(str(why.exception), "it is not a record: a text of it is not one term")
+            self.assertEqual(str(raised(NotFollowed, term_of, text)), "it is not a record: a text of it is not one term")
 
     def test_a_rule_may_have_no_condition(self):
         self.assertEqual(rules("(<= (p a)) (<= q) (<= (terminal) (p))"), [Rule(0, ("p", 1), ("a",), ()), Rule(1, ("q", None), (), ()), Rule(2, ("terminal", None), (), (Asked(True, ("p", 0), ()),))])
@@ -53,29 +50,17 @@ class Levels(unittest.TestCase):
 
     def test_lists_in_one_another_in_a_text(self):
         self.assertEqual(term_of("(f " * 64 + "a" + ")" * 64), nested(64))
-        with self.assertRaises(KifFault) as why:
-            term_of("(f " * 65 + "a" + ")" * 65)
-        self.assertEqual(str(why.exception), "lists are nested more than 64 deep")
+        self.assertEqual(str(raised(KifFault, term_of, "(f " * 65 + "a" + ")" * 65)), "lists are nested more than 64 deep")
         self.assertEqual(expressions("(f " * 65 + "a" + ")" * 65, 65), [nested(65)])
 
     def test_lists_in_one_another_in_a_term_that_rules_make(self):
         for term in ("a", nested(1), nested(64), ("f", "a", nested(63), "b")):
             self.assertIs(low(term), term)
         for term in (nested(65), ("f", nested(64), "a"), ("f", "a", nested(64)), nested(200)):
-            with self.assertRaises(NotFollowed) as why:
-                low(term)
-            self.assertEqual(str(why.exception), "a term is nested more than 64 lists deep")
+            self.assertEqual(str(raised(NotFollowed, low, term)), "a term is nested more than 64 lists deep")
 
     def test_a_list_that_has_variables_is_built(self):
         self.assertEqual([is_built(term) for term in ("?x", "a", ("f", "a"), ("f", ("g", "?x")))], [False, False, False, True])
-
-    def test_a_description_and_a_record_of_64_lists_are_followed(self):
-        deep, deeper = ("(f " * count + "s" + ")" * count for count in (63, 64))
-        text = f"(role r) (legal r m) (init {deep}) (<= (next (f ?x)) (true ?x)) (<= terminal (true t)) (goal r 1)"
-        record = {"roles": ["r"], "states": [[deep], [deeper]], "moves": [["m"]], "errors": [[""]], "goalValues": [], "phase": "playing", "cause": None}
-        self.assertEqual(Following(Game(text)).follow(record), 1)
-        with self.assertRaises(Refused):
-            Game(text.replace(deep, deeper))
 
 
 class Conditions(unittest.TestCase):
@@ -89,19 +74,6 @@ class Conditions(unittest.TestCase):
         ):
             self.assertEqual(tests_of(literal), wanted, literal)
 
-    def test_up_to_a_hundred_ways_are_rules_and_of_more_each_or_is_a_relation(self):
-        def sentence(*counts):
-            return f"(<= (h ?a ?b) {' '.join('(or ' + ' '.join(f'(q{at} ?{name})' for at in range(count)) + ')' for name, count in zip('ab', counts))})"
-
-        few = rules(sentence(10, 10))
-        self.assertEqual((len(few), {rule.relation for rule in few}, {len(rule.body) for rule in few}), (100, {("h", 2)}, {2}))
-        self.assertEqual(len(rules(sentence(101, 1))), 102)
-        many = rules(f"a {sentence(10, 11)}")
-        self.assertEqual({relation: sum(rule.relation == relation for rule in many) for relation in [("h", 2), ("either1", 1), ("either2", 1)]}, {("h", 2): 1, ("either1", 1): 10, ("either2", 1): 11})
-        whole, = (rule for rule in many if rule.relation == ("h", 2))
-        self.assertEqual(whole, Rule(1, ("h", 2), ("?a", "?b"), (asked("either1", "?a"), asked("either2", "?b"))))
-        self.assertIn(Rule(1, ("either2", 1), ("?b",), (asked("q10", "?b"),)), many)
-
     def test_an_or_stays_where_each_of_its_variables_is_bound_beside_it(self):
         found, = rules("(<= (h ?x) (p ?x) (or (q ?x) (not (r ?x))))")
         self.assertEqual(found, Rule(0, ("h", 1), ("?x",), (asked("p", "?x"), Either(((asked("q", "?x"),), (asked("r", "?x", positive=False),))))))
@@ -113,8 +85,7 @@ class Conditions(unittest.TestCase):
         # A negation or an equality binds nothing.
         for body, count in (("(not (p ?x)) (or (q ?x) (r ?x))", 2), ("(p ?x) (or (q ?x ?y) (s ?x ?y)) (not (t ?x))", 2), ("(distinct ?x a) (or (q ?x) (r ?x))", 2)):
             self.assertEqual(len(rules(f"(<= (h ?x) {body})")), count, body)
-        with self.assertRaises(Refused):
-            rules("(<= h (not (p ?x)) (or (not (q ?x)) (not (r ?x))))")
+        raised(Refused, rules, "(<= h (not (p ?x)) (or (not (q ?x)) (not (r ?x))))")
 
 
 class Tied(unittest.TestCase):
@@ -140,12 +111,11 @@ class Positions(unittest.TestCase):
         rows = [("a", "b", "c"), ("a", "d", "c"), ("e", "b", "c")]
         self.assertEqual(index_of(rows, (0,)), {"a": rows[:2], "e": rows[2:]})
         self.assertEqual(index_of(rows, (1, 2)), {("b", "c"): [rows[0], rows[2]], ("d", "c"): [rows[1]]})
-        self.assertEqual((Index(rows, (0,)).get("e"), Index(rows, (0,)).get("x", ())), (rows[2:], ()))
 
     def test_a_position_has_its_terms_by_their_functors(self):
-        rows = by_functor({"s", ("at", "a"), ("at", "b"), ("at", "a", "b")})
+        rows = grouped({"s", ("at", "a"), ("at", "b"), ("at", "a", "b")}, functor_of)
         self.assertEqual({key: sorted(terms) for key, terms in rows.items()}, {("s", 0): ["s"], ("at", 2): [("at", "a"), ("at", "b")], ("at", 3): [("at", "a", "b")]})
-        found = Position(frozenset(), [("r", "m")], rows, None, Tables())
+        found = Position(frozenset(), [("r", "m")], rows, None, {})
         self.assertEqual((found.index(0, ("at", 2), (1,))("b"), found.index(0, ("at", 2), (1,))("b"), found.index(1, ("no", 2), (1,))("b", ()), found.does), ([("at", "b")], [("at", "b")], (), {"r": "m"}))
 
     def test_all_that_is_true_of_a_circle_grows_and_each_row_is_there_once(self):
@@ -165,7 +135,7 @@ class Estimates(unittest.TestCase):
     def setUp(self):
         text = "(e a b) (e a c) (e b c) (f a) (<= (d ?x) (e ?x ?y)) (<= (w ?x ?y) (e ?x ?y)) (<= (w ?x ?z) (w ?x ?y) (e ?y ?z)) (<= (big ?x ?y) (f ?x) (f ?y)) (big x y)"
         text += "(<= (way up ?x ?y) (e ?x ?y)) (<= (way down ?y ?x) (e ?x ?y)) (<= (way (k ?x) ?x ?y) (e ?x ?y)) (big x x) (big x z)"
-        self.sizes = Sizes(Relations(rules(text)), 3, by_functor(["s", ("at", "a", "x"), ("at", "b", "x"), ("at", "b", "y"), ("on", "z")]))
+        self.sizes = Sizes(Relations(rules(text)), 3, grouped(["s", ("at", "a", "x"), ("at", "b", "x"), ("at", "b", "y"), ("on", "z")], functor_of))
 
     def answers(self, text, *bound, sizes=None):
         (name, *arguments) = term_of(text)
@@ -254,29 +224,6 @@ class Games(unittest.TestCase):
 
     def test_what_follows_the_moves(self):
         self.assertEqual(set(self.game.following(self.game.position(frozenset({"s"}), self.MOVES))), {("did", "a", "go"), ("did", "b", ("m", "1"))})
-
-
-class Followed(unittest.TestCase):
-    def test_the_place_of_a_term_is_that_of_its_parts(self):
-        def before(first, second):
-            """Returns whether a term comes before another: numbers by value, and equal ones by text, then other atoms, then lists."""
-            if isinstance(first, tuple) and isinstance(second, tuple):
-                differ = next(((a, b) for a, b in zip(first, second) if a != b), None)
-                return before(*differ) if differ else len(first) < len(second)
-            kinds = [2 if isinstance(term, tuple) else 0 if term.isdigit() else 1 for term in (first, second)]
-            if kinds != [0, 0]:
-                return first < second if kinds == [1, 1] else kinds[0] < kinds[1]
-            return (int(first), first) < (int(second), second)
-
-        def made(dice, depth):
-            if depth and dice.random() < 0.4:
-                return tuple(made(dice, depth - 1) for _ in range(dice.randrange(1, 4)))
-            return dice.choice(("0", "00", "7", "07", "007", "10", "9", "123", "99", "a", "b", "ab", "1a", "-3"))
-
-        dice = random.Random(4)
-        for _ in range(2_000):
-            first, second = made(dice, 2), made(dice, 2)
-            self.assertEqual(place(first) < place(second), first != second and before(first, second), (first, second))
 
 
 class Compiled(unittest.TestCase):

@@ -4,6 +4,7 @@ import unittest
 
 from ggp_tools.gdl import Literal, Rule, all_rules, as_read, cited, each_of, lines_of, ways_of
 from ggp_tools.kif import Refused, expressions
+from support import raised
 
 
 def rules(text):
@@ -25,9 +26,7 @@ class Ways(unittest.TestCase):
         ten = [(str(at),) for at in range(10)]
         self.assertEqual(len(each_of([ten] * 4)), 10_000)
         for many in ([ten, ten, ten, [("x",)] * 11], [[("x",)] * 73, [("x",)] * 137]):
-            with self.assertRaises(Refused) as why:
-                each_of(many)
-            self.assertEqual(str(why.exception), "its `or`s can hold in more than 10,000 ways")
+            self.assertEqual(str(raised(Refused, each_of, many)), "its `or`s can hold in more than 10,000 ways")
 
     def test_a_denial_turns_and_and_or(self):
         one, other = ("true", "a"), ("true", "b")
@@ -100,10 +99,9 @@ class Reading(unittest.TestCase):
 
 class Refusals(unittest.TestCase):
     def assert_refused(self, text, words):
-        with self.assertRaises(Refused) as why:
-            all_rules(expressions(f"(role r) {text}"))
-        self.assertEqual((str(why.exception), why.exception.sentence), (words, 1))
-        return why.exception.advice
+        why = raised(Refused, all_rules, expressions(f"(role r) {text}"))
+        self.assertEqual((str(why), why.sentence), (words, 1))
+        return why.advice
 
     def test_what_is_no_sentence(self):
         for text, words in (

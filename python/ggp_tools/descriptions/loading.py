@@ -13,8 +13,8 @@ from dataclasses import dataclass
 from ggp_tools import kif
 from ggp_tools.descriptions import kept
 from ggp_tools.instantiating.limits import LARGE, LARGE_NOTE, MOST
-from ggp_tools.gdl import Relations, Rule, all_rules, as_read
-from ggp_tools.instantiating.for_players import text_for_players as text_for_players
+from ggp_tools.gdl import Relations, all_rules, as_read
+from ggp_tools.instantiating.for_players import text_for_players
 from ggp_tools.processes import run_whole
 from ggp_tools.referee import BadRules, Referee
 
@@ -175,7 +175,7 @@ def load_described(path: pathlib.Path, described: pathlib.Path, referee: Referee
         raise NoDescription(f"its description {described} has no variables")
     player_rules = None
     if tells_variables:
-        heads = [Rule(0, kif.head_of(sentence), ()) for sentence in kif.expressions(ground.decode("latin-1"))]
+        heads = list(map(kif.head_of, kif.expressions(ground.decode("latin-1"))))
         player_rules = text_for_players(list(map(as_read, kif.expressions(text.decode("latin-1")))), heads).encode("ascii")
         if len(player_rules) > MOST_BYTES_FOR_PLAYERS:
             raise NoDescription(f"the text for players has more than {MOST_BYTES_FOR_PLAYERS:,} bytes")

@@ -6,7 +6,7 @@ from collections.abc import Iterator
 from ggp_tools.instantiating.limits import refuse_faults
 from ggp_tools.instantiating.rounds import asked, circles
 from ggp_tools.gdl import Relations, Rule, all_rules
-from ggp_tools.kif import Expression, Refused, expressions, place_of, quoted, starts, told
+from ggp_tools.kif import Expression, Refused, expressions, grouped, place_of, quoted, starts, told
 
 MOST_LISTED, MOST_SHOWN = 8, 80
 
@@ -24,13 +24,10 @@ class Sentences:
         return "; ".join(cited + more)
 
 
-def roles_named_again(sentences: list[Expression]) -> Iterator[list[int]]:
-    """Yields the sentences that name a role, for each role that is named more than once."""
-    numbers_by_role = {}
-    for number, sentence in enumerate(sentences):
-        if sentence[:1] == ("role",):
-            numbers_by_role.setdefault(sentence, []).append(number)
-    yield from (numbers for numbers in numbers_by_role.values() if len(numbers) > 1)
+def roles_named_again(sentences: list[Expression]) -> list[list[int]]:
+    """Returns the sentences that name a role, for each role that is named more than once."""
+    naming = (number for number, sentence in enumerate(sentences) if sentence[:1] == ("role",))
+    return [numbers for numbers in grouped(naming, sentences.__getitem__).values() if len(numbers) > 1]
 
 
 def cycles(rules: list[Rule]) -> Iterator[list[int]]:
@@ -49,7 +46,7 @@ def why_refused(text: bytes) -> list[str]:
         return [] if why.sentence is None else [told(text.decode("latin-1"), why)]
     if not rules:
         return []
-    errors = [f"these name the same role: {read.listed(numbers)}" for numbers in itertools.islice(roles_named_again(read.sentences), MOST_LISTED)]
+    errors = [f"these name the same role: {read.listed(numbers)}" for numbers in roles_named_again(read.sentences)[:MOST_LISTED]]
     errors += [f"these depend on each other: {read.listed(numbers)}" for numbers in itertools.islice(cycles(rules), MOST_LISTED)]
     try:
         refuse_faults(rules)

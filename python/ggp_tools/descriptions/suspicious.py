@@ -7,11 +7,14 @@ import math
 import time
 from collections import Counter
 from collections.abc import Iterable, Iterator, Sequence
+from operator import attrgetter, itemgetter
 from typing import NamedTuple
 
 from ggp_tools.descriptions.loading import NoDescription, sentence_starts
 from ggp_tools.gdl import ARITIES, GAME, SECRET, as_read, must_be_atomic, must_be_literal, reached
-from ggp_tools.kif import TOKEN, Expression, Refused, Relation, blanked, expressions, head_of, place_of, quoted, relation, spelled, variables
+from ggp_tools.kif import (
+    TOKEN, Expression, Refused, Relation, blanked, expressions, grouped, head_of, is_variable, place_of, quoted, relation, spelled, variables,
+)
 from ggp_tools.printable import counted, shown
 from ggp_tools.referee import MOST_OF_MOVE
 
@@ -81,7 +84,7 @@ def conditions(literal: Expression, way: Way) -> Iterator[tuple[Way, Expression]
 def may_be(left: Expression, right: Expression) -> bool:
     """Returns whether two terms can be equal for some values of their variables."""
     if isinstance(left, str) or isinstance(right, str):
-        return left == right or any(isinstance(term, str) and term.startswith("?") for term in (left, right))
+        return left == right or is_variable(left) or is_variable(right)
     return len(left) == len(right) and all(map(may_be, left, right))
 
 
@@ -170,10 +173,10 @@ class Description:
         if not sentence or (is_rule and len(sentence) < 2):
             self.is_well_formed = False
             return
-        part = Part(number, (1,) if is_rule else (), head_of(sentence))
-        asked = [Part(number, *pair) for at, literal in enumerate(sentence[2:] if is_rule else (), 2) for pair in conditions(literal, (at,))]
+        part, body = Part(number, (1,) if is_rule else (), head_of(sentence)), sentence[2:] if is_rule else ()
+        asked = [Part(number, *pair) for at, literal in enumerate(body, 2) for pair in conditions(literal, (at,))]
         try:
-            for literal in sentence[2:] if is_rule else ():
+            for literal in body:
                 must_be_literal(literal)
             must_be_atomic(part.atom, True)
         except Refused as why:
@@ -192,11 +195,9 @@ class Description:
 
     def told_places(self, parts: list[Part]) -> dict[tuple[int, Way], str]:
         """Returns the line and column of each part, by sentence and path."""
-        paths, places_found = {}, {}
-        for part in parts:
-            paths.setdefault(part.sentence, set()).add(part.way)
-        for number, ways in paths.items():
-            for way, at in member_starts(self.text, self.starts[number], ways).items():
+        places_found = {}
+        for number, of_sentence in grouped(parts, itemgetter(0)).items():
+            for way, at in member_starts(self.text, self.starts[number], {part.way for part in of_sentence}).items():
                 places_found[number, way] = place_of(self.text, at)
         return places_found
 
@@ -249,27 +250,20 @@ def is_too_long(move: Expression) -> bool:
 
 def by_name(relations: Iterable[Relation]) -> dict[str, list[int | None]]:
     """Returns the numbers of arguments of relations by name."""
-    counts_by_name = {}
-    for name, count in sorted(relations, key=str):
-        counts_by_name.setdefault(name, []).append(count)
-    return counts_by_name
+    return {name: [count for _, count in found] for name, found in grouped(sorted(relations, key=str), itemgetter(0)).items()}
 
 
 class Search:
     """Searches a description for suspicious sentences. `ground` is the text of its ground rules, if it was accepted."""
 
     def __init__(self, description: Description, ground: bytes | None, until: float) -> None:
-        self.description, self.until, self.said, self.parts = description, until, {}, {}
-        for head in description.heads:
-            self.parts.setdefault(head.atom, []).append(head)
+        self.description, self.until, self.said, self.parts = description, until, {}, grouped(description.heads, attrgetter("atom"))
         self.heads = Atoms(head.atom for head in description.heads)
         self.asked = Atoms(part.atom for part in description.conditions)
         self.terms = Atoms(("true", head.atom[1]) for head in description.heads if relation(head.atom) in (("init", 1), ("next", 1)))
         self.needed, self.known, self.compared = description.needed(), self.heads, 0
-        self.counts, self.needed_counts, self.names = by_name(self.heads.relations()), by_name(self.needed), {}
-        for name, count in sorted(self.heads.relations(), key=str):
-            if len(name) <= MOST_SHOWN:
-                self.names.setdefault(count, []).append(name)
+        self.counts, self.needed_counts = by_name(self.heads.relations()), by_name(self.needed)
+        self.names = grouped((found for found in sorted(self.heads.relations(), key=str) if len(found[0]) <= MOST_SHOWN), itemgetter(1))
         self.facts = set()
         if ground is not None:
             sentences = expressions(ground.decode("latin-1"))
@@ -360,9 +354,9 @@ class Search:
 
     def names_like(self, count: int | None) -> list[str]:
         """Returns the names of relations with this number of arguments. They are empty after too many comparisons, which are slow."""
-        lists = [self.names.get(number, []) for number in ((count,) if count else (None, 0))]
-        self.compared += sum(map(len, lists))
-        return sum(lists, []) if self.compared <= MOST_COMPARED else []
+        names = [name for number in ((count,) if count else (None, 0)) for name, _ in self.names.get(number, ())]
+        self.compared += len(names)
+        return names if self.compared <= MOST_COMPARED else []
 
     def of_instances(self) -> Iterator[Finding]:
         """Yields the instances with a move that is too long, and the facts about names that are not roles. Other instances may never hold, so they

@@ -91,12 +91,12 @@ class Program:
         key = "facts", relation, places
         if key not in self.made:
             rows = self.relations.facts.get(relation, {})
-            value = positions.Index(rows, places).get if places else rows if places is None else list(rows)
+            value = positions.index_of(rows, places).get if places else rows if places is None else list(rows)
             self.made[key] = self.constant(value)
         return self.made[key]
 
     def position(self, state: State, pairs: Sequence[tuple[str, Term]], rows: dict) -> Position:
-        return positions.Position(state, pairs, rows, self.function, positions.Tables(self.relations.fixed))
+        return positions.Position(state, pairs, rows, self.function, self.relations.fixed)
 
 
 class Lines:

@@ -1,5 +1,6 @@
 """Replays a record with the published description, and checks its roles, states, moves, errors, end and goals."""
 
+import functools
 from collections.abc import Callable, Sequence
 
 from ggp_tools.kif import Relation, fits, place, quoted, spelled
@@ -33,26 +34,20 @@ def read_record(line: bytes | str) -> dict:
     return record
 
 
+def canonical_term(text: str) -> Term:
+    """Parses a term, which must be in canonical form."""
+    term = term_of(text)
+    if spelled(term) != text:
+        raise NotFollowed(f"it is not a record: `{quoted(text)}` is not canonical text")
+    return term
+
+
 class Following:
     """The game, with caches of terms and their texts. `seen` has the first sentence that was seen to derive a move of a role."""
 
     def __init__(self, game: Game) -> None:
-        self.game, self.texts, self.terms, self.seen = game, {}, {}, {}
-        self.in_order = list(game.roles)
-
-    def text(self, term: Term) -> str:
-        if term not in self.texts:
-            self.texts[term] = spelled(term)
-        return self.texts[term]
-
-    def term(self, text: str) -> Term:
-        """Parses a term, which must be in canonical form."""
-        if text not in self.terms:
-            parsed = term_of(text)
-            if spelled(parsed) != text:
-                raise NotFollowed(f"it is not a record: `{quoted(text)}` is not canonical text")
-            self.terms[text] = parsed
-        return self.terms[text]
+        self.game, self.seen, self.in_order = game, {}, list(game.roles)
+        self.text, self.term = functools.cache(spelled), functools.cache(canonical_term)
 
     def follow(self, record: dict) -> int:
         """Checks a record to its end. Returns its number of turns."""
@@ -79,11 +74,9 @@ class Following:
         own = {self.text(term): term for term in state}
         if own.keys() == set(texts) and len(texts) == len(own):
             return
-        lines = []
-        for text in sorted(own.keys() - set(texts))[:MOST_TOLD]:
-            lines.append(f"{when} lacks {quoted(text)}, which {cited(own[text])}")
-        for text in sorted(set(texts) - own.keys())[:MOST_TOLD]:
-            lines.append(f"{when} has {quoted(text)}, which no sentence of the description gives there")
+        lines = [f"{when} lacks {quoted(text)}, which {cited(own[text])}" for text in sorted(own.keys() - set(texts))[:MOST_TOLD]]
+        more = sorted(set(texts) - own.keys())[:MOST_TOLD]
+        lines += [f"{when} has {quoted(text)}, which no sentence of the description gives there" for text in more]
         raise Differs("\n".join(lines or [f"{when} has a term twice"]))
 
     def cited(self, relation: Relation, arguments: Sequence[Term], state: State, moves: Sequence[Term] = ()) -> str:

@@ -2,13 +2,14 @@
 
 import re
 from collections.abc import Sequence
+from operator import attrgetter
 
 from ggp_tools import gdl
-from ggp_tools.kif import Relation, expressions, has_variables
+from ggp_tools.kif import Relation, expressions, grouped, has_variables
 
 from .compiling import Program
 from .planning import Sizes
-from .positions import Position, State, by_functor
+from .positions import Position, State, functor_of
 from .reading import GOAL, INIT, LEGAL, NEXT, ROLE, TERMINAL, Rule, Term, one_by_one, rules_of, with_relations
 from .relations import Relations
 
@@ -31,14 +32,14 @@ class Game:
         empty = self.position(frozenset())
         self.initial, self.roles = frozenset(empty.ask(INIT, (False,))(empty)), empty.ask(ROLE, (False,))(empty)
         self.has_fixed_order = ROLE not in relations.rules
-        self.program = Program(relations, Sizes(relations, len(self.roles), by_functor(self.initial)))
+        self.program = Program(relations, Sizes(relations, len(self.roles), grouped(self.initial, functor_of)))
         heads = [rule.arguments for rule in self.rules if rule.relation == LEGAL] if self.is_ground else []
         self.ranks = {head: rank for rank, head in enumerate(dict.fromkeys(heads))}
 
     def position(self, state: State, moves: Sequence[Term] = ()) -> Position:
         """Returns the position of a state, with a move of each role if `moves` are given. If a state has many more terms than earlier ones, the rules
         are planned again."""
-        rows = by_functor(state)
+        rows = grouped(state, functor_of)
         if not self.is_ground and (sizes := self.program.sizes.after(rows)):
             self.program = Program(self.program.relations, sizes)
         return self.program.position(state, list(zip(self.roles, moves)), rows)
@@ -80,11 +81,7 @@ class Game:
 
     def by_sentence(self, relation: Relation) -> dict[int, list[Rule]]:
         """Returns the rules of a relation by their sentences."""
-        rules = {}
-        for rule in self.rules:
-            if rule.relation == relation:
-                rules.setdefault(rule.sentence, []).append(rule)
-        return rules
+        return grouped((rule for rule in self.rules if rule.relation == relation), attrgetter("sentence"))
 
     def set_apart(self, relation: Relation, number: int, rules: list[Rule]) -> Relation:
         """Returns a relation that has only the rules of one sentence."""
@@ -99,4 +96,3 @@ class Game:
     def cited(self, number: int) -> str:
         self.lines = self.lines or gdl.lines_of(self.text)
         return gdl.cited(number, self.sentences, self.lines)
-

@@ -1,7 +1,10 @@
 """Indexes a state and its moves for queries, and caches the results."""
 
+from collections import defaultdict
 from collections.abc import Callable, Iterable, Sequence
 from operator import itemgetter
+
+from ggp_tools.kif import grouped
 
 from .reading import Term
 
@@ -16,42 +19,17 @@ def functor_of(term: Term) -> tuple[str, int]:
     return (term, 0) if isinstance(term, str) else (term[0], len(term))
 
 
-class Tables(dict):
-    """Cached results, by the numbers of functions."""
-
-    def __missing__(self, number: int) -> dict:
-        self[number] = table = {}
-        return table
-
-
 def index_of(rows: Iterable[Term], places: tuple[int, ...]) -> Rows:
     """Groups rows by their values at these indices: by one value, or by a tuple of several."""
-    rows_by_key, key = {}, itemgetter(*places)
-    for row in rows:
-        rows_by_key.setdefault(key(row), []).append(row)
-    return rows_by_key
-
-
-class Index:
-    """An index of facts."""
-
-    def __init__(self, rows: Iterable[Term], places: tuple[int, ...]) -> None:
-        self.get = index_of(rows, places).get
-
-
-def by_functor(state: State) -> dict[tuple[str, int], list[Term]]:
-    """Groups the terms of a state by functor."""
-    terms = {}
-    for term in state:
-        terms.setdefault(functor_of(term), []).append(term)
-    return terms
+    return grouped(rows, itemgetter(*places))
 
 
 class Position:
-    """A state, with the moves of a turn if there are some."""
+    """A state, with the moves of a turn if there are some. `rows` are its terms by functor, `fixed` the cached results that every state has."""
 
-    def __init__(self, state: State, pairs: Sequence[tuple[str, Term]], rows: dict[tuple[str, int], list[Term]], ask: Callable, tables: Tables) -> None:
-        self.state, self.rows, self.ask, self.tables, self.indexes = state, rows, ask, tables, {}
+    def __init__(self, state: State, pairs: Sequence[tuple[str, Term]], rows: dict[tuple[str, int], list[Term]], ask: Callable, fixed: dict) -> None:
+        self.state, self.rows, self.ask, self.indexes = state, rows, ask, {}
+        self.tables = defaultdict(dict, fixed)
         self.move(pairs)
 
     def move(self, pairs: Sequence[tuple[str, Term]]) -> None:

@@ -9,7 +9,7 @@ from functools import lru_cache
 from typing import NamedTuple
 
 from ggp_tools import gdl
-from ggp_tools.kif import MOST_LEVELS, Expression, Refused, arguments_of, expressions, relation, variables
+from ggp_tools.kif import MOST_LEVELS, Expression, Refused, arguments_of, expressions, levels, relation, variables
 
 Term = Expression
 TRUE, DOES, INIT, NEXT = ("true", 1), ("does", 2), ("init", 1), ("next", 1)
@@ -64,13 +64,8 @@ def term_of(text: str) -> Term:
 
 def low(term: Term) -> Term:
     """Returns a term. Refuses a term that is nested more deeply than the referee allows, for example one from infinitely many instances."""
-    queue = [(term, 0)]
-    while queue:
-        inner, level = queue.pop()
-        if isinstance(inner, tuple):
-            if level == MOST_LEVELS:
-                raise NotFollowed(f"a term is nested more than {MOST_LEVELS} lists deep")
-            queue += [(member, level + 1) for member in inner]
+    if levels(term) > MOST_LEVELS:
+        raise NotFollowed(f"a term is nested more than {MOST_LEVELS} lists deep")
     return term
 
 

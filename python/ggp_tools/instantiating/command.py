@@ -3,6 +3,7 @@
 import argparse
 
 from ggp_tools.descriptions.suspicious import suspicions
+from ggp_tools.instantiating.for_players import text_for_players
 from ggp_tools.instantiating.limits import MOST
 from ggp_tools.instantiating.making import ALWAYS, NEVER, WHERE_NEEDED, Making
 from ggp_tools.kif import KifFault, Refused, told
@@ -20,7 +21,7 @@ HELP = (
 
 def write_player_rules(made: Making, file: str) -> None:
     """Writes the description with variables, and reports its length."""
-    text = made.text_for_players()
+    text = text_for_players(made.sentences, [rule.head for rule in made.ground_rules])
     if len(text) > MOST["bytes"]:
         raise Refused(f"nothing is written, because the text for players exceeds the limit: bytes ({len(text):,} of {MOST['bytes']:,})")
     with open(file, "w", encoding="ascii") as stream:

@@ -8,6 +8,7 @@ The meaning of sentences never changes, so states, moves, goals and ends stay th
 order of roles and of legal moves stays the same too.
 """
 
+import itertools
 import math
 from collections import Counter, defaultdict
 from collections.abc import Callable, Iterable, Iterator, Mapping, Sequence
@@ -162,13 +163,13 @@ class Folded:
         for head in by:
             del self.bodies[head]
             self.own.discard(head)
-        known = {}
+        known = dict(by)
         for head, bodies in self.bodies.items():
             if self.below(head).isdisjoint(by):
                 continue
             unique = {}
             for body in bodies:
-                parts = [self.formulas.replaced(formula, by, known) for formula in body]
+                parts = [self.formulas.replaced(formula, known, True) for formula in body]
                 new = body if all(part == formula for part, formula in zip(parts, body)) else self.formulas.body(parts)
                 if new is not None:
                     unique[new] = None
@@ -332,11 +333,7 @@ class Folded:
         denied = [self.formulas.nodes[formula][1] for formula in formulas if self.formulas.nodes[formula][0] == "not"]
         if len(denied) > 1:
             formulas = {formula for formula in formulas if self.formulas.nodes[formula][0] != "not"}
-            members = set()
-            for formula in denied:
-                node = self.formulas.nodes[formula]
-                members.update(node[1] if node[0] == "or" else (formula,))
-            formulas.add(self.formulas.no(self.formulas.listed(members)))
+            formulas.add(self.formulas.no(self.formulas.listed(self.formulas.alternatives(denied))))
         return frozenset(formulas)
 
     def share_bodies(self, most: int) -> None:
@@ -387,27 +384,29 @@ class Folded:
                 by[head] = self.new_part()
         known = dict(by)
         for head, bodies in list(self.bodies.items()):
-            self.rewrite(head, [frozenset(self.formulas.renamed(formula, known) for formula in body) for body in bodies])
+            self.rewrite(head, [self.renamed(body, known) for body in bodies])
             bodies = self.bodies.pop(head)
             if head in by and head in self.origins:
                 self.origins[by[head]] = self.origins.pop(head)
             self.sources[by.get(head, head)] = self.sources[head]
             self.bodies[by.get(head, head)] = bodies
 
+    def renamed(self, body: Iterable[int], known: dict[int, int]) -> Formed:
+        return frozenset(self.formulas.replaced(formula, known, False) for formula in body)
+
     def name_parts(self, chosen: list[int]) -> None:
         """Gives each of these formulas a sentence, the smaller ones first, and uses its name wherever the formula occurs."""
         known, made = {}, {}
         for number in chosen:
             name = self.new_part()
-            made[name] = [frozenset([self.formulas.renamed(number, known)])]
+            made[name] = [self.renamed([number], known)]
             known[number] = name
         for head, bodies in self.bodies.items():
             source = self.sources[head]
-            self.rewrite(head, [frozenset(self.formulas.renamed(formula, known) for formula in body) for body in bodies])
-            for body in self.bodies[head]:
-                for formula in body:
-                    if formula in made:
-                        self.sources.setdefault(formula, source)
+            self.rewrite(head, [self.renamed(body, known) for body in bodies])
+            for formula in itertools.chain(*self.bodies[head]):
+                if formula in made:
+                    self.sources.setdefault(formula, source)
         for name in made:
             self.sources.setdefault(name, min(self.sources.values()))
         self.bodies.update(made)

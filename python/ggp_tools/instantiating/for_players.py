@@ -1,23 +1,23 @@
 """Writes the description with variables for players, whose programs read `base` and `input` there."""
 
-from ggp_tools.gdl import Literal, Rule, each_of, ways_of
+from ggp_tools.gdl import Literal, each_of, ways_of
 from ggp_tools.instantiating.limits import atoms_of
-from ggp_tools.kif import Expression, head_of, relation, spelled
+from ggp_tools.kif import Expression, grouped, head_of, relation, spelled
 
 
-def text_for_players(sentences: list[Expression], rules: list[Rule]) -> str:
+def text_for_players(sentences: list[Expression], ground_heads: list[Expression]) -> str:
     """Returns one sentence on each line, in canonical text and without `and`. Roles that rules derive are written as facts, in the order of the
     ground description. If no sentence mentions `base` or `input`, its facts are added: all possible terms of states, or all possible moves. If a
     sentence uses them without defining them, adding facts would change the game."""
     mentioned = {relation(atom) for sentence in sentences for atom in atoms_of(sentence)}
-    written = [plain for sentence in sentences if relation(head_of(sentence)) != ("role", 1) for plain in without_and(sentence)]
-    written = [rule.head for rule in rules if relation(rule.head) == ("role", 1)] + written
+    heads = grouped(ground_heads, relation)
+    written = [*heads.get(("role", 1), ())]
+    written += [plain for sentence in sentences if relation(head_of(sentence)) != ("role", 1) for plain in without_and(sentence)]
     if ("base", 1) not in mentioned:
-        terms = dict.fromkeys(rule.head[1] for rule in rules if relation(rule.head) in (("init", 1), ("next", 1)))
-        written += [("base", term) for term in terms]
+        terms = [head[1] for head in ground_heads if relation(head) in (("init", 1), ("next", 1))]
+        written += [("base", term) for term in dict.fromkeys(terms)]
     if ("input", 2) not in mentioned:
-        moves = dict.fromkeys(rule.head[1:] for rule in rules if relation(rule.head) == ("legal", 2))
-        written += [("input", *move) for move in moves]
+        written += [("input", *head[1:]) for head in dict.fromkeys(heads.get(("legal", 2), ()))]
     return "".join(f"{spelled(expression)}\n" for expression in written)
 
 

@@ -3,9 +3,10 @@
 In a turn each role makes exactly one of its moves. So exactly one of a role's `does` sentences is true, and the `or` of all of them is true. An `or`
 of most of them is equivalent to the negation of the `or` of the others."""
 
+from collections import Counter
 from collections.abc import Iterable
 
-from ggp_tools.kif import Expression, levels, spelled
+from ggp_tools.kif import Expression, grouped, levels, spelled
 
 TRUE, FALSE = 0, 1
 
@@ -49,15 +50,16 @@ class Formulas:
 
     def any(self, numbers: Iterable[int]) -> int:
         """Returns the formula that is true if one of these is."""
-        members = set()
-        for number in numbers:
-            node = self.nodes[number]
-            members.update(node[1] if node[0] == "or" else (number,))
+        members = self.alternatives(numbers)
         self.work += len(members)
         members.discard(FALSE)
         if TRUE in members or any(self.no(member) in members for member in members if self.nodes[member][0] == "not"):
             return TRUE
         return FALSE if not members else TRUE if self.has_all_moves(members) else self.listed(members)
+
+    def alternatives(self, numbers: Iterable[int]) -> set[int]:
+        """Returns these formulas, with the members of each `or` instead of it."""
+        return {member for number in numbers for member in (self.members(number) if self.nodes[number][0] == "or" else (number,))}
 
     def listed(self, members: set[int]) -> int:
         """Returns the `or` of these without simplifying it."""
@@ -68,10 +70,7 @@ class Formulas:
         return self.made(("or", members), size, max(self.depths[member] for member in members) + 1)
 
     def has_all_moves(self, members: set[int]) -> bool:
-        counts = {}
-        for member in members:
-            if member in self.role_of:
-                counts[self.role_of[member]] = counts.get(self.role_of[member], 0) + 1
+        counts = Counter(self.role_of[member] for member in members if member in self.role_of)
         return any(count == len(self.moves[role]) for role, count in counts.items())
 
     def all(self, numbers: Iterable[int]) -> int:
@@ -96,7 +95,7 @@ class Formulas:
         if node[0] == "not":
             inner = self.allowed(node[1])
             return inner and (inner[0], self.moves[inner[0]] - inner[1])
-        members = node[1] if node[0] == "or" else (number,)
+        members = self.alternatives([number])
         roles = {self.role_of.get(member) for member in members}
         role = roles.pop()
         return None if roles or role is None else (role, frozenset(members))
@@ -123,17 +122,11 @@ class Formulas:
         """Returns the formula with few moves instead of many, wherever this is shorter."""
         node = self.nodes[number]
         if node[0] == "not":
-            inner = self.shortest(node[1])
-            return self.no(inner)
+            return self.no(self.shortest(node[1]))
         if node[0] != "or":
             return number
-        groups, members = {}, []
-        for member in node[1]:
-            if member in self.role_of:
-                groups.setdefault(self.role_of[member], []).append(member)
-            else:
-                members.append(self.shortest(member))
-        for role, those in groups.items():
+        members = [self.shortest(member) for member in node[1] if member not in self.role_of]
+        for role, those in grouped((member for member in node[1] if member in self.role_of), self.role_of.get).items():
             others = self.no(self.listed(self.moves[role].difference(those)))
             together = self.listed(those)
             # It stays a separate `or`, because other sentences may share it.
@@ -148,28 +141,15 @@ class Formulas:
             return "not", self.expression(node[1])
         return "or", *map(self.expression, node[1])
 
-    def replaced(self, number: int, by: dict[int, int], known: dict[int, int]) -> int:
-        """Returns the formula with some atoms replaced, and simplified. `known` is a cache."""
-        if number in known:
-            return known[number]
-        node = self.nodes[number]
-        if node[0] == "not":
-            result = self.no(self.replaced(node[1], by, known))
-        elif node[0] == "or":
-            result = self.any([self.replaced(member, by, known) for member in node[1]])
-        else:
-            result = by.get(number, number)
-        known[number] = result
-        return result
-
-    def renamed(self, number: int, known: dict[int, int]) -> int:
-        """Returns the formula with some atoms replaced, without simplifying it. `known` is a cache."""
+    def replaced(self, number: int, known: dict[int, int], is_simplified: bool) -> int:
+        """Returns the formula with the parts replaced that `known` has, which is also the cache. It may be simplified."""
         if number not in known:
             node = self.nodes[number]
             if node[0] == "not":
-                known[number] = self.no(self.renamed(node[1], known))
+                known[number] = self.no(self.replaced(node[1], known, is_simplified))
             elif node[0] == "or":
-                known[number] = self.listed({self.renamed(member, known) for member in node[1]})
+                members = {self.replaced(member, known, is_simplified) for member in node[1]}
+                known[number] = self.any(members) if is_simplified else self.listed(members)
             else:
                 known[number] = number
         return known[number]

@@ -10,7 +10,7 @@ from collections import Counter
 from collections.abc import Iterable, Iterator
 from typing import TextIO
 
-from ggp_tools.kif import MOST_LEVELS, Expression, Refused, Relation, arguments_of, relation, variables
+from ggp_tools.kif import MOST_LEVELS, Expression, Refused, Relation, arguments_of, levels, relation, variables
 from ggp_tools.gdl import GAME, Literal, Rule
 
 # The limits of the grounder's memory and of the number of instances.
@@ -90,25 +90,16 @@ def term_text(term: Expression, names: dict[str, str]) -> str:
 
 def term_list(text: str) -> list[str]:
     """Parses a list of terms in the grounder's output."""
-    levels = [[]]
+    lists = [[]]
     for token in re.findall(r'"(?:[^"\\]|\\.)*"|[()]', text):
         if token == "(":
-            levels.append([])
+            lists.append([])
         elif token == ")":
-            closed = tuple(levels.pop())
-            levels[-1].append(closed)
+            closed = tuple(lists.pop())
+            lists[-1].append(closed)
         else:
-            levels[-1].append(re.sub(r"\\(.)", r"\1", token[1:-1]) if "\\" in token else token[1:-1])
-    return levels[0]
-
-
-def level_count(text: str) -> int:
-    """Returns how deep the lists of a line are nested."""
-    deepest = level = 0
-    for token in re.findall(r'"(?:[^"\\]|\\.)*"|[()]', text):
-        level += {"(": 1, ")": -1}.get(token, 0)
-        deepest = max(deepest, level)
-    return deepest
+            lists[-1].append(re.sub(r"\\(.)", r"\1", token[1:-1]) if "\\" in token else token[1:-1])
+    return lists[0]
 
 
 class TooMany(Refused):
@@ -156,14 +147,15 @@ class Grounder:
             name, lists = name.strip().rstrip("."), line.count("(")
             self.counts[name] += 1
             self.lists[name] = max(lists, self.lists.get(name, 0))
-            if lists > MOST_LEVELS and level_count(line) > MOST_LEVELS + 1:
+            arguments = rest.rpartition(")")[0]
+            if lists > MOST_LEVELS and max(map(levels, term_list(arguments)), default=0) > MOST_LEVELS:
                 raise Refused(f"a term is nested more than {MOST_LEVELS} lists deep")
             # An unfinished line means that gringo was stopped.
             if line.startswith("i") and line.endswith("\n"):
                 kept += 1
                 if kept > self.most:
                     raise TooMany(f"there are more than {self.most:,} instances")
-                yield int(name[1:]), term_list(rest.rpartition(")")[0])
+                yield int(name[1:]), term_list(arguments)
 
     def lists_in(self, rule: Rule) -> int:
         """Returns the number of lists in the largest sentence that was derived for a rule's relation."""

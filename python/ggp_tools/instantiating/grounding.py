@@ -1,9 +1,10 @@
 """Computes the ground rules of a game from the grounder's instances."""
 
 from collections.abc import Iterable, Sequence
+from operator import attrgetter
 
-from ggp_tools.kif import Expression, place, put, relation
-from ggp_tools.gdl import GAME, Body, Literal, Rule
+from ggp_tools.kif import Expression, grouped, place, put, relation
+from ggp_tools.gdl import GAME, Body, Literal, Rule, reached
 
 # The grounded rules, each with the variables for which an instance has terms; and an instance: the number of its rule, and its terms.
 Kept = Sequence[tuple[Rule, Sequence[str]]]
@@ -43,16 +44,9 @@ def shortened(body: Body, can_be: set[Expression]) -> Body | None:
 
 def needed(rules: list[Rule]) -> list[Rule]:
     """Returns the rules of the game's own relations, and those that these depend on."""
-    rules_for = {}
-    for rule in rules:
-        rules_for.setdefault(rule.head, []).append(rule)
-    open_heads = [head for head in rules_for if relation(head)[0] in GAME]
-    heads = set(open_heads)
-    while open_heads:
-        for rule in rules_for.get(open_heads.pop(), ()):
-            asked = {literal.atom for literal in rule.body} - heads
-            heads |= asked
-            open_heads += asked
+    asks = {head: [literal.atom for rule in of_head for literal in rule.body] for head, of_head in grouped(rules, attrgetter("head")).items()}
+    own = [head for head in asks if relation(head)[0] in GAME]
+    heads = {*own, *reached(asks, own)}
     return [rule for rule in rules if rule.head in heads]
 
 

@@ -1,10 +1,10 @@
-"""The limits of the referee, and what it refuses in ground rules."""
+"""The limits of the referee, what it refuses in ground rules, and rules that derive infinitely many instances."""
 
 import re
 from collections import Counter
 from collections.abc import Iterator, Sequence
 
-from ggp_tools.kif import MOST_LEVELS, Expression, Refused, head_of, levels, quoted, relation, spelled
+from ggp_tools.kif import MOST_LEVELS, Expression, Refused, arguments_of, fits, head_of, levels, put, quoted, relation, spelled, variables
 from ggp_tools.gdl import SECRET, Rule, cited
 from ggp_tools.printable import counted
 
@@ -20,6 +20,8 @@ Numbered = tuple[int, Expression]
 Figure = tuple[str, int, int]
 GOAL = re.compile(r"0|[1-9][0-9]?|100")
 PAST_GOAL = re.compile(r"[1-9][0-9]{2,}")
+# Derived terms of a state become `true`, and derived moves become `does`.
+TURNED = {("next", 1): ("true", 1), ("init", 1): ("true", 1), ("legal", 2): ("does", 2)}
 WITHOUT_HIGH_GOALS = "if one would hold at the end, the role gets the other goal that holds there, and if there is none the match has no goals"
 
 
@@ -86,3 +88,23 @@ def dearest(costs: Counter[int], sentences: Sequence[Expression], lines: Sequenc
     """Cites the three sentences of the description that cost the most."""
     unit = "byte" if is_bytes else "ground sentence"
     return [f"{cited(number, sentences, lines)}: {counted(round(count), unit)}" for number, count in costs.most_common(3)]
+
+
+def endless(rules: list[Rule]) -> Rule | None:
+    """Returns a rule that derives a larger instance from each of its instances, or None."""
+    return next(filter(is_endless, rules), None)
+
+
+def is_endless(rule: Rule) -> bool:
+    """Returns whether the rule's conditions match its own head with a variable replaced by a larger term, and nothing else bounds it."""
+    asked = [literal for literal in rule.body if literal.positive and not literal.same]
+    if not asked or any(literal.same for literal in rule.body):
+        return False
+    head, values = rule.head, {}
+    key = TURNED.get(relation(head), relation(head))
+    # The variables of the derived instance are renamed, because the next instance has its own.
+    head = put(head, {name: name + "'" for name in variables(head)})
+    for literal in asked:
+        if relation(literal.atom) != key or not all(fits(pattern, term, values) for pattern, term in zip(arguments_of(literal.atom), arguments_of(head))):
+            return False
+    return any(isinstance(term, tuple) and name + "'" in variables(term) for name, term in values.items())

@@ -4,8 +4,7 @@ import math
 import time
 from typing import NamedTuple
 
-from . import folding, for_players, gringo, grounding, limits, rounds
-from .endless import endless
+from . import folding, gringo, grounding, limits, rounds
 from .splitting import split
 from ggp_tools.kif import Expression, Refused, expressions, quoted, relation, spelled
 from ggp_tools.printable import counted
@@ -95,10 +94,9 @@ class Making:
                 return self.made()
         except Late:
             why = f"stopped after {self.seconds:g} s, {self.work}"
-        return self.reported(self.best) if self.best else self.refuse(why)
-
-    def refuse(self, why: str) -> None:
-        raise Refused(self.explained(why))
+        if not self.best:
+            raise Refused(self.explained(why))
+        return self.reported(self.best)
 
     def made(self) -> str:
         self.sentences = [as_read(expression) for expression in expressions(self.text)]
@@ -121,7 +119,7 @@ class Making:
                 self.best = self.written(self.ground_rules_of(form))
             except gringo.TooMany as why:
                 if form is tried[-1] and not self.best and not self.hopeless:
-                    self.refuse(str(why))
+                    raise Refused(self.explained(str(why))) from None
                 continue
             except folding.Hopeless as why:
                 if why is not self.hopeless:
@@ -169,7 +167,7 @@ class Making:
         except gringo.TooSlow:
             raise Late from None
         except Refused as why:
-            self.refuse(str(why))
+            raise Refused(self.explained(str(why))) from None
         self.work = "putting them in order"
         rules = grounding.needed(grounding.ground(program.kept, instances))
         first = next((rule.sentence for rule in rules if limits.is_high(rule.head)), None)
@@ -189,7 +187,7 @@ class Making:
     def explained(self, why: str) -> str:
         """Returns the reason with the facts that are known about the instances."""
         why = "; ".join([why, *self.known])
-        rule = endless(self.rules)
+        rule = limits.endless(self.rules)
         # The derived terms must actually grow: a sentence without instances derives nothing.
         if rule and self.grounder and self.grounder.lists_in(rule) > spelled(self.sentences[rule.sentence]).count("("):
             why = f"there are infinitely many instances: {why}; {self.cited(rule.sentence)}, derives ever larger terms from its own"
@@ -252,10 +250,6 @@ class Making:
             listed = ", ".join(f"{name} ({count:,} of {most:,})" for name, count, most in past)
             raise Refused(f"nothing is written, because this exceeds the limit: {listed}")
         return written.text
-
-    def text_for_players(self) -> str:
-        """Returns the description with variables for players."""
-        return for_players.text_for_players(self.sentences, self.ground_rules)
 
 
 def text_of(written: list[limits.Numbered], notes: list[str]) -> str:

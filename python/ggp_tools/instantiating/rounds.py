@@ -11,8 +11,9 @@ twice. The last round is the sentence itself, and sentences that no later round 
 """
 
 from collections.abc import Iterator
+from operator import attrgetter, itemgetter
 
-from ggp_tools.kif import Expression, Refused, atoms, fresh, quoted, relation
+from ggp_tools.kif import Expression, Refused, atoms, fresh, grouped, quoted, relation
 from ggp_tools.gdl import Literal, Rule, components
 from ggp_tools.printable import counted
 
@@ -53,9 +54,7 @@ def is_halved(circle: list[Expression], rules_for: RulesFor) -> bool:
 def has_all_halves(circle: list[Expression], rules_for: RulesFor) -> bool:
     """Returns whether each two sentences of the cycle that are halves of a third one have a rule that derives it, and the third one is in the cycle.
     Otherwise some paths are not made of halves."""
-    begun, bodies, members = {}, {}, set(circle)
-    for atom in circle:
-        begun.setdefault(atom[1], []).append(atom)
+    begun, bodies, members = grouped(circle, itemgetter(1)), {}, set(circle)
     for half in circle:
         for other in begun.get(half[2], ()):
             whole = (half[0], half[1], other[2])
@@ -173,9 +172,7 @@ def unrolled(rules: list[Rule]) -> tuple[list[Rule], list[tuple[Expression, int,
     cycles = circles(rules)
     if not cycles:
         return rules, []
-    rules_for = {}
-    for rule in rules:
-        rules_for.setdefault(rule.head, []).append(rule)
+    rules_for = grouped(rules, attrgetter("head"))
     word = fresh("round", {name for rule in rules for name in atoms(rule.head)})
     in_circles = {atom for cycle in cycles for atom in cycle}
     made, summary = [rule for rule in rules if rule.head not in in_circles], []
