@@ -248,13 +248,6 @@ class Commands(WithPile):
         with open(self.folder / "tables/players.csv", encoding="utf-8", newline="") as file:
             self.assertEqual([(row["match_number"], row["lawful"], row["copy_of"]) for row in csv.DictReader(file)][:6], [("1", "1", "")] * 2 + [("2", "0", "")] * 2 + [("3", "1", "1")] * 2)
 
-    def test_files_of_values_have_the_same_rows(self):
-        self.run_records("csv", self.folder / "tables", self.pile)
-        with open(self.folder / "tables/moves.csv", encoding="utf-8", newline="") as file:
-            rows = list(csv.reader(file))
-        self.assertEqual(rows[0], ["match_number", "turn", "role_number", "move", "error", "lawful", "copy_of"])
-        self.assertEqual(len(rows), 1 + 3 * 4)
-
     def test_pages_link_each_match_and_show_no_markup_of_it(self):
         hostile = json.loads(record(LAWFUL[1]))
         hostile["players"][0] = "<script>x</script>"
@@ -274,11 +267,6 @@ class Commands(WithPile):
             page = path.read_text(encoding="ascii")
             inside = page.count('<div class="wide"><table') + page.count('<div class="turns"><table')
             self.assertEqual((page.count("<table"), page.count('class="board"')), (inside, page.count('<div class="wide"><div class="board"')))
-
-    def test_a_pile_that_is_not_there_is_no_verdict(self):
-        said = self.run_records("check", self.folder / "none")
-        self.assertEqual(said.returncode, 3)
-        self.assertIn("none", said.stderr)
 
     def test_tables_take_what_is_no_lawful_record(self):
         odd, whole = [{"matchId": "\ud800"}, {"matchId": "a\0b"}, {"version": [1]}, {"players": ["=x", "a\"b\n,c\r"]}], json.loads(record(LAWFUL[1]))

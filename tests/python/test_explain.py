@@ -14,7 +14,7 @@ from unittest import mock
 from ggp_tools.holding.game import Game
 from ggp_tools.records import explain
 from ggp_tools.records.countdown import countdown
-from ggp_tools.records.explain import explain_lines, explanation, judged, judged_lines, read, short
+from ggp_tools.records.explain import explain_lines, explanation, judged, read, short
 from ggp_tools.records.record import json_lines
 from ggp_tools.streams import Ended
 from support import TOP, outside, program, raised, verdict_rows
@@ -219,14 +219,12 @@ class Verdicts(WithStandIn):
     def test_of_lines(self):
         path = self.referee.path
         self.answers(verdict_rows(None, "goals"), b"ggp_manager: records not lawful 1\n", 1)
-        self.assertEqual(judged_lines(path, ["--countdown=3"], [b"{}", b"7\tx"]), [None, "goals"])
+        self.assertEqual(judged(path, ["--lines", "--countdown=3"], b"{}\n7\tx\n", 2), [None, "goals"])
         self.assertEqual(self.asked(), (["verify", "--json", "--lines", "--countdown=3"], b"{}\n7\tx\n"))
-        self.answers(verdict_rows(None))
-        self.assertEqual(judged_lines(path, [], [b"{}"]), [None])
         wrong = "gives no verdict, and its status is"
         lawful, wrongly = verdict_rows(None), verdict_rows("goals")
         for answer, status in (((lawful * 2, b"", 0), 0), ((lawful, b"", 1), 1), ((wrongly, b"", 0), 0), ((wrongly, b"", 2), 2), ((lawful[:-3], b"", 0), 0), ((b"", b"", 0), 0)):
-            said = self.no_verdict(lambda: judged_lines(path, [], [b"{}"]), *answer)
+            said = self.no_verdict(lambda: judged(path, ["--lines"], b"{}\n"), *answer)
             self.assertEqual(said, (f"{path} {wrong} {status}", 3), answer)
 
     def lines_of(self, data: bytes) -> tuple[str, list[str]]:

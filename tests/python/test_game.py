@@ -195,11 +195,6 @@ class Game(InFolder):
         status, lines = self.look(SOUND + "(line 1)", "--matches", "0")
         self.assertEqual((status, lines[1:]), (0, ["suspicious: line 11, column 1: the game does not use `(line _)`: (line 1)"]))
 
-    def test_one_of_each(self):
-        status, lines = self.look("(role a)", "--matches", "1", "--seconds", "1")
-        self.assertEqual(lines[0], "game.kif is accepted: 1 sentence; roles a")
-        self.assertEqual(status, 1)
-
     def test_a_description_that_is_not_accepted(self):
         status, lines = self.look("(role a)\n(=> (legal a x) p)\n(<= (next x) (init x))")
         self.assertEqual((status, lines), (1, [

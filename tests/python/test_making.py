@@ -127,3 +127,9 @@ class Made(unittest.TestCase):
             ("(role r) (init a)\n(<= p (not q) (true a))\n(<= q o) (<= o p) (<= terminal p)", "line 2, column 1: a cycle: p depends on itself through the negation of q, with o: (<= p (not q) (true a))"),
         ):
             self.assertEqual(told(text, made(text)[0]).partition(";")[0], words)
+
+
+def test_without_standard_error_nothing_is_said_elsewhere(monkeypatch, capsys):
+    monkeypatch.setattr("sys.stderr", None)
+    making.report("x")
+    assert capsys.readouterr().out == ""

@@ -362,8 +362,7 @@ class Folded:
         nodes, sizes = self.formulas.nodes, self.formulas.sizes
         for number in range(len(nodes) - 1, -1, -1):
             if refs[number]:
-                for member in self.formulas.members(number):
-                    refs[member] += 1
+                refs.update(self.formulas.members(number))
         name_size = len(self.word) + 4
         gains = [
             ((count - 1) * sizes[formula] - (count + 1) * name_size - 7, formula)

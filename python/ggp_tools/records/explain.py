@@ -188,7 +188,7 @@ def explanation(word: str, game: Game, data: bytes) -> list[str]:
 
 
 def judged(program: str, words: list[str], data: bytes, count: int = 1) -> list[str | None]:
-    """Returns the referee's fault of each record, or None if the record is lawful."""
+    """Returns the referee's fault of each record, or None if the record is lawful. None of the records belongs to a call log."""
     try:
         run = subprocess.run([program, "verify", JSON, *words], input=data, capture_output=True)
     except (OSError, ValueError) as why:
@@ -197,11 +197,6 @@ def judged(program: str, words: list[str], data: bytes, count: int = 1) -> list[
     if len(faults) != count or run.returncode != int(any(faults)):
         raise Ended(run.stderr.decode("ascii", "replace").strip() or f"{program} gives no verdict, and its status is {run.returncode}", 3)
     return faults
-
-
-def judged_lines(program: str, words: list[str], lines: list[bytes]) -> list[str | None]:
-    """Returns the fault of each line, or None. None of the lines belongs to a call log."""
-    return judged(program, ["--lines", *words], b"".join(line + b"\n" for line in lines), len(lines))
 
 
 def read(name: str, most: int) -> bytes:
@@ -238,7 +233,8 @@ def explain_lines(asked_for: argparse.Namespace) -> int:
         # Even without records the referee reports errors in the rules.
         for batch in itertools.chain([next(batches, [])], batches):
             fitting = [line for line in batch if not line.is_too_long]
-            faults = dict(zip((line.number for line in fitting), judged_lines(asked_for.program, words, [line.data for line in fitting])))
+            found = judged(asked_for.program, ["--lines", *words], b"".join(line.data + b"\n" for line in fitting), len(fitting))
+            faults = dict(zip((line.number for line in fitting), found))
             for line in batch:
                 word = faults.get(line.number, line.said)
                 counts[bool(word)] += 1
