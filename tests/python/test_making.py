@@ -1,5 +1,6 @@
 """The output and the reports for a game, and the limits."""
 
+import math
 import signal
 import unittest
 from unittest import mock
@@ -18,7 +19,8 @@ MANY_TERMS = "(role r) (legal r m) (goal r 1) (<= terminal (true b1))" + "".join
 def made(text, wanted=WHERE_NEEDED, seconds=60, is_split=False, is_large=False):
     """Returns the output (or the reason for a refusal) and the reports."""
     lines = []
-    with mock.patch.object(making, "report", lines.append):
+    # On a busy computer a run would report intermediate results at once.
+    with mock.patch.object(making, "report", lines.append), mock.patch.object(making, "SOON", math.inf):
         try:
             found = Making(text, seconds, wanted, is_split, is_large).run()
         except Refused as why:
