@@ -1,5 +1,4 @@
-"""Random matches of a game: each is determined by its seed, has only legal moves, and is compared with the referee's desk. The desk is fake, and
-plays the lines of the script."""
+"""Random matches of a game: the seed determines each match, each move is legal, and the desk of the referee makes the same records."""
 
 import json
 import random
