@@ -218,8 +218,8 @@ pub fn input_file_fault(fault: Fault) -> Fault
     }
 }
 
-/// The size of the file at this path, which has more bytes than the limit; or the limit plus 1 if the size is not known,
-/// for example for a pipe.
+/// The size of a file that has more bytes than the limit. If the size is not known, for example for a pipe, this is the
+/// limit plus 1.
 fn size_above<F: Files>(files: &F, path: &str, limit: u32) -> u64
     ensures { limit < result }
 {

@@ -22,7 +22,7 @@ fn broken_rule(place: usize, word: &[u8]) -> Option<&'static str> {
     }
 }
 
-/// What is wrong with a line of a schedule that has a match, if the match breaks a rule.
+/// What is wrong with a line of a schedule, if the match in it breaks a rule.
 fn refused_match(line: &[u8]) -> Option<BadLine> {
     let mut start: usize = 0;
     let mut place: usize = 0;

@@ -39,7 +39,7 @@ replayed_line false calls count matches = codes "replayed " ++ (decimal calls ++
 replayed_line true calls count matches =
     codes "{\"verdict\":\"replayed\",\"calls\":" ++ (decimal calls ++ (codes ",\"not_ended\":" ++ (decimal count ++ (codes ",\"records\":" ++ (decimal matches ++ codes "}\n")))))
 
--- the output after this many calls led to this desk: their line, and the records of the matches
+-- the output for a call log of this many calls that leads to this desk: one line about them, and the records of the matches
 abbrev pub replayed_text : {G S M : Type 0} → Bool → (G → Rules S M) → ManagerValue G M → ℕ → List ℕ
 replayed_text is_json rules desk calls = replayed_line is_json calls (open_matches rules desk) (length desk.matches) ++ records rules desk desk.matches
 
@@ -62,7 +62,7 @@ abbrev pub into_first : List ℕ → List (List (List ℕ)) → List (List (List
 into_first line [] = (line ∷ []) ∷ []
 into_first line (group ∷ more) = (line ∷ group) ∷ more
 
--- the groups of lines between those that begin as records do
+-- the groups of lines between lines that begin as records do
 abbrev pub groups : List (List ℕ) → List (List (List ℕ))
 groups [] = [] ∷ []
 groups (line ∷ more) = if begins_as_record line then [] ∷ groups more else into_first line (groups more)
@@ -126,8 +126,8 @@ IsNumbered before (ReplayDiffers place right) = before + place ≤ last_count
 abbrev pub refused_line : List ℕ → ℕ → List ℕ
 refused_line verdict line = codes "{\"verdict\":\"" ++ (verdict ++ (codes "\",\"line\":" ++ (decimal line ++ codes "}\n")))
 
--- The output for a refused call log after this many lines of other logs: the verdict as JSON, or the correct line instead of the first
--- wrong one, if that has a call.
+-- The output for a refused call log after this many lines of other logs: the verdict as JSON; or, in plain text, the correct line, if
+-- the first wrong line has a call.
 abbrev pub refused_output : Bool → ℕ → ReplayFault → List ℕ
 refused_output is_json before ReplayMemory = []
 refused_output true before (ReplayNoEntry place why) = refused_line (codes "no_entry") (before + place)
@@ -156,7 +156,7 @@ AccountFails contents is_json rules games before account writer writer' fault =
 abbrev pub StopsLongAccount : Fault → ℕ → Type 0
 StopsLongAccount fault size = (fault ≡ Memory) ⊎ ((fault ≡ InputTooLong) × (max_account < size))
 
--- Why reading the input stops, given its lines so far, those of the last call log, and the bytes that are left.
+-- Why reading the input stops, given its lines so far, the lines of the last call log, and the bytes that are left.
 abbrev pub StopsInput : {R : Type 0} → Fault → List (List ℕ) → List (List ℕ) → List ℕ → Counting R → Counting R → Type 0
 StopsInput ReadFault seen account left reader reader' = HasOpenLine left (λ count. (count ≤ max_line) × StopsReading count reader reader')
 StopsInput InputTooLong seen account left reader reader' =

@@ -244,8 +244,8 @@ impl OpenAccount {
     }
 }
 
-/// Reads the call logs of an input, which end at the lines that begin as records do, and replays each on a new desk. Writes the output for
-/// a log before it reads the next one.
+/// Reads the call logs of an input, and replays each on a new desk. A line that begins as a record does ends a call log.
+/// Writes the output for a log before it reads the next one.
 pub fn replay_accounts<R: Read, W: Write, G: Game>(
     alloc: Global,
     is_json: bool,

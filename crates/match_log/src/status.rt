@@ -1,4 +1,4 @@
-//! The status line of a terminal, which shows the progress of the matches and is rewritten.
+//! The status line of a terminal. It shows the progress of the matches, and is rewritten when they progress.
 ghost use Rattle.std.specs.Prelude.{◌≡◌, ℕ, IsTrue, IsFalse, IfSome, IfNone};
 
 use game_core::Counted;

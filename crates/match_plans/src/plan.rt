@@ -13,7 +13,7 @@ pub struct MatchPlan<'a> {
     pub players: Vec<PlayerAddress<'a>>,
 }
 
-/// The player to check, with the clocks in seconds and the strikes of the matches.
+/// The player to check, the clocks in seconds, and the strikes of the matches.
 #[derive(Clone, Copy)]
 pub struct CheckPlan<'a> {
     pub player: PlayerAddress<'a>,

@@ -1,4 +1,4 @@
-//! The results of matches, which the threads of a season send.
+//! The results of matches that the threads of a season send.
 ghost use Rattle.std.specs.Prelude.{ℕ, List};
 ghost use Rattle.std.specs.Result.{ForOk};
 

@@ -256,8 +256,8 @@ where
     play_in_threads(around, &season, &sender, &receiver, writer)
 }
 
-/// Plays the matches of a schedule, which are all of the same game, in threads. Writes the record of each, followed by its call log if the
-/// form asks for it. Returns the number of matches without a record.
+/// Plays the matches of a schedule in threads. All are matches of the same game. Writes the record of each, followed by
+/// its call log if the form asks for it. Returns the number of matches without a record.
 ///
 /// A match begins when all earlier matches of the schedule have begun, except those with a player that has reached its
 /// limit of running matches. A match that runs out of memory or threads waits again, and from then on one fewer match is
@@ -265,9 +265,10 @@ where
 /// After this pause, a match that runs out again has no record. The season pauses again only after a match that did not
 /// run out.
 ///
-/// If there is no memory for counting the records, or not even one thread can be started, no match begins and the result is `Memory`.
-/// Otherwise each match without a record is reported. After a failed write no more matches begin, and the output ends with a part of the
-/// output of one match, which may be empty or complete. If the result is `Memory`, nothing was written.
+/// If there is no memory for counting the records, or not even one thread can be started, no match begins and the result
+/// is `Memory`. Otherwise each match without a record is reported. After a failed write no more matches begin. The output
+/// then ends with a part of the output of one match; this part may be empty or complete. If the result is `Memory`,
+/// nothing was written.
 pub fn play_season<'f, 'a, R, S, W: Write, E: ReportsMissing + Send>(
     around: &SeasonSurroundings<'f, '_, R, S, E>,
     game: PlayableGame<'f>,

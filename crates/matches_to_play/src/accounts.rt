@@ -1,4 +1,4 @@
-//! Finds records in a file that have an incomplete call log.
+//! Finds records with an incomplete call log in a file.
 ghost use Rattle.std.specs.Prelude.{IfErr};
 ghost use Rattle.command_faults.specs.Faults.{IsFileFault};
 ghost use Rattle.command_faults.specs.declared.files.NamedFile.TheVariants.{Records};

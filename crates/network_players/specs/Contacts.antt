@@ -31,8 +31,8 @@ contact_answer (Err (faults.Exchange fault received)) = answer_of (Err fault)
 contact_answer (Err (faults.Late received)) = Silent
 contact_answer (Err fault) = Broken
 
--- The error of a message whose last try failed with the first error, and which then had no time left, with the second: what the referee
--- lacks, if one of these errors says so, or else the first error.
+-- The error of a message: `fault` is the error of the last try, and `halt` is why no other try followed. If one of them says what the
+-- referee lacks, this is the error; otherwise it is `fault`.
 abbrev pub fault_at_end : ContactFault → ContactFault → ContactFault
 fault_at_end (faults.Shortage shortage) halt = faults.Shortage shortage
 fault_at_end fault (faults.Shortage shortage) = faults.Shortage shortage
@@ -80,8 +80,8 @@ fault_so_far before (faults.Shortage Network) = before
 fault_so_far before last = last
 
 -- What follows a try to connect. If the referee lacked a resource, another try follows, even if the player has accepted no connection
--- for some seconds. If the player accepts no connection, another try follows if `is_patient`. A try that had no time left does not
--- count, so the error is that of the earlier try.
+-- for some seconds. If the player accepts no connection and `is_patient` is true, another try follows. A try that had no time left does
+-- not count, so the error is that of the earlier try.
 abbrev pub after_try : ContactFault → Bool → ContactFault → AfterTry
 after_try before is_patient (faults.Shortage shortage) = Waits shortage
 after_try before is_patient faults.NoConnection = if is_patient then Tries else Ends faults.NoConnection

@@ -3,7 +3,7 @@ use Rattle.std.specs.Prelude.{◌≡◌, ◌+◌, ◌*◌, ◌-◌, ◌^◌, fal
 use Rattle.std.specs.Duration.{as_nanos}
 use Rattle.network_players.specs.declared.signal.Pace.{Pace}
 
--- The player got one more message and has answered it: its next wait is a first one.
+-- The player got one more message and has answered it: its next wait is a first wait.
 pub record HasAnswered (before after : Pace) : Type 0 where
   pub messages : after.messages ≡ min (2 ^ 64 - 1) (before.messages + 1)
   pub rest : as_nanos after.rest ≡ 100000000

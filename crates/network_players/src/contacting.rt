@@ -91,8 +91,8 @@ const MAX_CONNECTS: u32 = 2_000_000;
 
 const _: () = prove!(MAX_CONNECTS as u64 * PAUSE_MILLIS > MAX_CLOCK as u64 * 1_000);
 
-/// The error of a message whose last try failed with `fault`, and which then had no time left, with `halt`: what the
-/// referee lacks, if one of these errors says so, or else `fault`.
+/// The error of a message: `fault` is the error of the last try, and `halt` is why no other try followed. If one of them
+/// says what the referee lacks, this is the error; otherwise it is `fault`.
 fn fault_at_end(fault: ContactFault, halt: ContactFault) -> ContactFault
     ensures { result ≡ fault_at_end fault halt }
 {

@@ -23,8 +23,8 @@ use std::{io, thread};
 /// program was not running.
 const STALL_MILLIS: u64 = 100;
 
-/// The program sleeps through this last part of a message's time, in milliseconds, because the system ends a sleep exactly but a wait for
-/// bytes too late.
+/// The program sleeps through this last part of a message's time, in milliseconds, because the system ends a sleep on
+/// time, but a wait for bytes too late.
 const LAST_MILLIS: u64 = 20;
 
 /// When the time is over, this many reads may still take the bytes that are there. Together they can take the longest answer.

@@ -9,8 +9,8 @@ use std::io::ErrorKind;
 use std::net::{IpAddr, Ipv6Addr, Net, SocketAddr, ToSocketAddrs};
 use std::os::unix::net::UnixStream;
 
-/// How many times in a row the resolver must find no address before the host has none. Without a file descriptor it finds
-/// none for any name.
+/// How many times in a row the resolver must find no address before the host counts as having none. Without a file
+/// descriptor it finds none for any name.
 const DENIALS: u32 = 3;
 
 /// The host without its brackets if it is an IPv6 address with a zone, or else `None`.

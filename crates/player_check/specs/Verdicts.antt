@@ -6,13 +6,13 @@ use Rattle.player_check.specs.declared.watched.AnswerKind.TheVariants.{Text, Sil
 use Rattle.player_check.specs.declared.table.Verdict.{Verdict}
 use Rattle.player_check.specs.declared.table.Verdict.TheVariants.{Taken, Legal, Illegal, NoMove, Late, Broken, Dropped}
 
--- the verdict, by whether the error is empty, and whether it says that the text is not an expression
+-- the verdict, given whether the error is empty, and whether it says that the text is not an expression
 abbrev pub judged_as : Bool → Bool → Verdict
 judged_as true b = Legal
 judged_as false true = NoMove
 judged_as false false = Illegal
 
--- the verdict, by the error of the turn, if the turn was recorded
+-- the verdict, given the error of the turn if the turn was recorded
 abbrev pub judged : Option (List ℕ) → Verdict
 judged None = Dropped
 judged (Some error) = judged_as (length error == 0) (bytes_eq error unreadable_text)
