@@ -1,4 +1,5 @@
-//! Plans of matches: addresses of players, the source of a game, a match, the matches of a schedule, the check of a player.
+//! Plans of matches: addresses of players, the source of a game, a match, the matches of a schedule, and the check of a
+//! player.
 //!
 //! The trait `Reach` makes the players of a planned match, and `ReportsShortages` reports which resource the referee lacked
 //! in it.

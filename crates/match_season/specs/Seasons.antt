@@ -113,7 +113,7 @@ abbrev pub WritesUpTo : (ℕ → List ℕ → Type 0) → RecordOrder → ℕ �
 WritesUpTo IsOutput order all old new WriteFault = WritesSomeAndPart IsOutput order all old new
 WritesUpTo IsOutput order all old new Memory = new ≡ old
 
--- a write fault counts one more failed write; an out-of-memory error counts none
+-- one more failed write is counted for a write fault, and none for an out-of-memory error
 abbrev pub faults_by : SeasonFault → ℕ → ℕ
 faults_by WriteFault faults = one_more faults
 faults_by Memory faults = faults

@@ -80,7 +80,8 @@ pub trait Explains {
 /// The error number for a packet that this computer's firewall stops.
 const EPERM: i32 = 1;
 
-/// For how many seconds connections that fail are tried again. A player that restarts in this time misses nothing.
+/// The number of seconds during which a connection that fails is tried again. A player that restarts in this time misses
+/// nothing.
 const RETRY_SECONDS: u64 = 2;
 
 /// The pause before the next try to connect, in milliseconds.

@@ -221,7 +221,7 @@ pub(crate) fn take_step<C: Clock, S: OpenStream>(
     }
 }
 
-/// Waits for bytes or the end of the stream. Returns the halt of a message that has no time left for this.
+/// Waits for bytes or the end of the stream. If the message has no time left for this, returns its halt.
 fn wait_for_bytes<C: Clock, S: OpenStream>(
     clock: &C,
     stream: &S,

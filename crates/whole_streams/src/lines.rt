@@ -25,7 +25,7 @@ pub enum NextLine {
     Nothing,
 }
 
-/// The bytes of an input that were read but are not yet part of a line. In contracts this value is these bytes. Together
+/// The bytes of an input that were read but are not yet part of a line. Contracts see this value as these bytes. Together
 /// with the bytes left in the stream, they are the rest of the input.
 #[derive(Drop)]
 pub struct LineBuffer {
