@@ -1,6 +1,6 @@
 """Random small descriptions with variables. Each is grounded in four forms, which must describe the same game. Each description has facts, recursive
-relations, states with nested terms, moves, and nested negations and `or`s. Three matches of each are played by one form. The same answers must make
-the same records by the other forms, and each record is checked with the description."""
+relations, states with nested terms, moves, and nested negations and `or`s. Three matches of each are played with one form. The same answers must give
+the same records with the other forms, and each record is checked against the description."""
 
 import random
 
@@ -13,7 +13,7 @@ FORMS = [(how, is_split) for how in (making.NEVER, making.ALWAYS) for is_split i
 MATCHES, MOST_TURNS = 3, 12
 CONSTANTS = ("0", "1", "a")
 ROLES = ("ann", "bob", "cid")
-# The kinds of arguments: constants, lists around these, roles, and moves.
+# The kinds of arguments: constants, lists with constants, roles, and moves.
 PLAIN, AROUND, ROLE, MOVE = range(4)
 # The facts, terms of the state and moves, with the kinds of their arguments.
 FACTS = {"e": (PLAIN, PLAIN), "c": (PLAIN,), "h": (PLAIN, AROUND)}
@@ -209,7 +209,7 @@ class Tried:
         try:
             first, *others = [instantiated(self.text, *form) for form in FORMS]
         except Refused as why:
-            # Some joins take the grounder a long time, especially on a busy computer.
+            # The grounder takes a long time for some joins, especially on a busy computer.
             return None if str(why).startswith("stopped after ") else f"refused: {why}"
         game = Game(self.text)
         for number in range(MATCHES):

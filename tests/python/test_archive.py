@@ -1,4 +1,4 @@
-"""An archive is checked in another directory, and refused after each of many corruptions, most of them with matching checksums."""
+"""`check` accepts an archive in another directory, and refuses it after each of many corruptions, most of them with matching checksums."""
 
 import errno
 import gzip
@@ -60,7 +60,7 @@ def without(*names):
 
 
 def nonsense(files):
-    """Replaces a description, with matching checksums, also in the rules."""
+    """Replaces a description, with matching checksums there and in the rules."""
     text, sums = b"(role nonsense)\n", "cup/rules/DESCRIPTIONS.sha256"
     old = hashlib.sha256(files["cup/games/odd.kif"]).hexdigest()
     files["cup/games/odd.kif"] = text

@@ -1,4 +1,4 @@
-"""Files of records are sorted by game, checked, and written as tables and pages."""
+"""Sorting files of records by game, checking the records, and writing them as tables and pages."""
 
 import contextlib
 import csv

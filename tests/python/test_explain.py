@@ -185,7 +185,7 @@ class Words(unittest.TestCase):
 
 
 class Verdicts(WithStandIn):
-    """How the referee's output is read."""
+    """Tests of how the referee's output is read."""
 
     def no_verdict(self, ask, *answer) -> tuple[str, int]:
         self.begin_anew()

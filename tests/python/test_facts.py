@@ -25,7 +25,7 @@ from test_collection import WithPile
 RECORD_BYTES = (TOP / "examples/records/countdown-3-second_version.record").read_bytes().rstrip()
 RECORD = json.loads(RECORD_BYTES)
 FAULTY = (TOP / "examples/records/countdown-3-another_state.record").read_bytes()
-# In this one no connection was made to blue for START, nor for the first PLAY.
+# In this log, the referee had no connection to blue for START, nor for the first PLAY.
 BROKEN = {**RECORD, "startMarks": ["", "CE"], "errors": [["", "CE"], ["", ""]]}
 M1 = Match("m1", "countdown", 10, 10, ("ann", "bob"))
 # 2026-11-28T06:00:00Z
@@ -165,7 +165,7 @@ class Lines(unittest.TestCase):
         return Judged(Line("pile", 1, said(record)[:-1], record), game, "lawful")
 
     def of(self, record: dict, *logs: str) -> dict:
-        """Returns the facts of the record, also without those that are missing for ids with several matches."""
+        """Returns the facts of the record, and the facts without those that are missing if an id has several matches."""
         self.made = self.facts(*logs)
         found = self.made.of(self.judged(record))
         self.assertEqual(json.loads(json.dumps(found)), found)

@@ -1,5 +1,5 @@
-"""Formulas over ground sentences are equivalent to the expressions that they are made of, in each state and for all moves, and their sizes are those
-of their texts."""
+"""Formulas over ground sentences are equivalent to the expressions from which they are made, in each state and for all moves, and their sizes are the
+lengths of their texts."""
 
 import itertools
 import unittest
@@ -142,7 +142,7 @@ class OfFormulas(unittest.TestCase):
         most = self.formulas.any([first, second, third])
         self.assertEqual(self.formulas.expression(self.formulas.shortest(most)), ("not", MOVES["r"][3]))
         self.assertEqual(self.formulas.expression(self.formulas.shortest(self.formulas.no(most))), MOVES["r"][3])
-        # Two of four are shorter as they are.
+        # Two of four alternatives are shorter unchanged.
         half = self.formulas.any([first, second])
         self.assertEqual(self.formulas.expression(self.formulas.shortest(half)), ("or", *MOVES["r"][:2]))
         beside = self.formulas.any([most, self.atoms[0]])

@@ -1,4 +1,4 @@
-"""Ground rules from instances, dependences, texts for players, and the splitting of rules."""
+"""Ground rules from instances, dependencies, texts for players, and the splitting of rules."""
 
 import itertools
 import random
@@ -185,7 +185,7 @@ class Circles(unittest.TestCase):
             "(<= round1 a)", "(<= (next a) a)", "(<= a (round 1 b))", "(<= a (true t) (round 1 b))", "(<= b (round 1 c))", "(<= c (true s))",
             "(<= (round 1 b) (round 0 c))", "(<= (round 1 c) (true s))", "(<= (round 0 c) (true s))",
         ])
-        # Only the first rule of each head keeps the place of its first original rule; for c that one is left out.
+        # Only the first rule of each head keeps the place of its first original rule; for c, this rule is left out.
         self.assertEqual([rule.sentence for rule in found], [4, 6, 0, 5, 1, 2, 1, 3, 3])
 
     def test_rounds_that_are_too_many_are_refused(self):
@@ -230,7 +230,7 @@ class Splitting(unittest.TestCase):
     FACTS = {("e", start, end) for start, end in zip("abcdeabc", "bcdeabda")}
 
     def heads(self, found):
-        """Returns what rules derive, bottom-up, by trying all values of their variables."""
+        """Returns the heads that rules derive, bottom-up, by trying all values of the variables."""
         true = set(self.FACTS)
         while True:
             new = set()

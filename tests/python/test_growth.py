@@ -1,4 +1,4 @@
-"""A competition that grows: planned matches stay, new ones follow them, and a change is refused with its name."""
+"""A competition that grows: planned matches stay, new ones follow them, and the message about a refused change names it."""
 
 import contextlib
 import unittest
@@ -33,7 +33,7 @@ def seated(matches):
 
 class Growth(unittest.TestCase):
     def grown(self, *versions, again=()):
-        """Returns the schedule after replacing one file by the next, each with everything that was planned before."""
+        """Returns the schedule after each file was replaced by the next one, with everything that was planned before."""
         history = History((), tuple(again))
         for before, after in zip(versions, versions[1:]):
             refuse_changes(before, after)
@@ -275,7 +275,7 @@ class ByRounds(unittest.TestCase):
             grown(History(), self.swiss(1, "three"), ROLES, nothing_known)
 
     def test_only_the_match_that_was_ordered_again_pairs_the_next_round(self):
-        # p2 has two points, p0 and p1 have one each; with the match before it p0 would have two, and a stronger opponent than p2.
+        # p2 has two points, p0 and p1 have one each; with the previous match, p0 would have two points, and a stronger opponent than p2.
         order = Again("cup-005", "cup-001", "x")
         for history, competition_before in ((History((), (order,)), self.swiss(2)), (History(((4, self.swiss(1)),), (order,)), self.swiss(2))):
             found = grown(history, competition_before, ROLES, self.result)
@@ -335,7 +335,7 @@ class Histories(InFolder):
         (self.folder / "records").mkdir()
         (self.folder / "records/cup-001.json").touch()
         self.write(3, 1)
-        # As if a plan was killed after its first file.
+        # As if `plan` had been killed after its first file.
         (self.folder / "earlier").mkdir()
         (self.folder / "earlier/2.toml").write_bytes((self.folder / "planned.toml").read_bytes())
         self.assertEqual(run(self.folder, "table")[0], 2)

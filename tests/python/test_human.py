@@ -265,7 +265,7 @@ class Seats(unittest.TestCase):
         self.seat.page_opens(-1)
         self.seat.play_clock = 0
         self.assertIsNone(self.seat.answer("(PLAY M NIL)"))
-        # It is made once the page is open again.
+        # The move is made once the page is open again.
         self.seat.play_clock = 60
         asked = self.ask("(PLAY M NIL)")
         self.await_phase("moving")
@@ -372,7 +372,7 @@ class Pages(unittest.TestCase):
         return self.request("POST", self.of_page("move"), json.dumps({"leave": match})).status
 
     def view(self):
-        """Returns what a page that is opened now shows."""
+        """Returns the contents of a page that is opened now."""
         events = self.request("GET", self.of_page("events"))
         self.addCleanup(events.close)
         return json.loads(events.fp.readline().removeprefix(b"data: "))
@@ -419,7 +419,7 @@ class Pages(unittest.TestCase):
         self.serve("127.0.0.3")
         line = http.client.HTTPConnection(*self.server.server_address[:2], timeout=SECONDS, source_address=("127.0.0.2", 0))
         self.addCleanup(line.close)
-        # Only the head is sent, and answered at once.
+        # Only the head of the request is sent; the answer comes at once.
         line.putrequest("POST", "/")
         line.putheader("Content-Length", "16777216")
         line.endheaders()

@@ -47,7 +47,7 @@ class InBrowser(unittest.TestCase):
         return self.page
 
     def cells(self) -> dict[str, str]:
-        """Returns what the board shows at each of its places."""
+        """Returns the text that the board shows at each place."""
         return dict(self.page.value(f"{CELLS}.map((cell) => [cell.title, cell.innerText.trim()])"))
 
     def test_a_person_plays_by_mouse_and_by_keyboard(self) -> None:
@@ -69,7 +69,7 @@ class InBrowser(unittest.TestCase):
         self.go_to(page, "3 1: b")
         page.press("Enter")
         self.assertEqual(self.answered(asked), "(mark 3 1)")
-        # The filter leaves the moves that are typed.
+        # The filter leaves only the moves that match the typed text.
         self.assertEqual(self.answered(self.ask("(PLAY M ((mark 3 1) noop))")), "noop")
         asked = self.ask("(PLAY M (noop (mark 1 2)))")
         page.until("document.querySelectorAll('.board button.can').length === 5")
@@ -85,7 +85,7 @@ class InBrowser(unittest.TestCase):
         self.assertRegex(page.text(), r"The match is over: xplayer .*, oplayer .*\. The player does not answer")
 
     def go_to(self, page: Page, place: str) -> None:
-        """Moves by the keyboard, place by place, to one of the board. Each place must show its focus."""
+        """Moves the focus with the keyboard, place by place, to a place of the board. Each place on the way must show that it has the focus."""
         reached = ""
         while reached != place:
             page.press("Tab")

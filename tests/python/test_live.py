@@ -1,4 +1,4 @@
-"""How open matches are read: logs from the last position on, and the referee's replies to the answers."""
+"""How open matches are read: logs from the last position, and the referee's replies to the answers."""
 
 import html
 import json
@@ -35,7 +35,7 @@ def shown(seen):
 
 
 def setUpModule():
-    """On a busy computer the referee, and reading the records, may take long. These tests do not wait for that."""
+    """On a busy computer, the referee and the reading of the records may take a long time. These tests do not wait for them."""
     unittest.enterModuleContext(patch.object(live, "READING", 1e9))
     for share in ("SHARE", "JUDGING_SHARE"):
         unittest.enterModuleContext(patch.object(live, share, 0))
@@ -74,11 +74,11 @@ class Lines(InRoom):
         self.assertFalse(live.is_held(folder))
         with held(folder):
             self.assertTrue(live.is_held(folder))
-            # If other locks go while the list is read, a lock may be missing in it.
+            # If other locks disappear while the list is read, the list may lack a lock.
             for missed, is_held in ((4, True), (5, False)):
                 with patch.object(live, "locks", side_effect=[*[[]] * missed, live.locks()]):
                     self.assertEqual(live.is_held(folder), is_held)
-            # A directory on another disk may have the same number.
+            # A directory on another disk may have the same inode number.
             with patch.object(live, "lock_place", lambda found: f"ff:fff:{os.stat(found).st_ino}"):
                 self.assertFalse(live.is_held(folder))
 
@@ -155,7 +155,7 @@ class Lines(InRoom):
         self.assertEqual((seen.turn(), seen.board.position.moves, seen.missed, seen.replaced), (2, [["(take 1)", "noop"]], {}, []))
         self.assertEqual(seen.board.turns()[0].errors, ("", "lost (out of ports)"))
         self.assertIn("the referee lacked a resource", turn_row(seen.board.turns()[0])[1])
-        # The match goes on, also if that retires the player.
+        # The match goes on, even if this retires the player.
         seen = self.seen_after(log, self.play(3, "((take 1) noop)", ["noop"], [0]), strikes=1)
         self.assertEqual((seen.turn(), seen.awaited()), (3, [0]))
         # The player may answer with this text.
@@ -381,7 +381,7 @@ class States(InRoom):
         return next(term for term in board.position.states[-1] if term.startswith("(heap"))
 
     def test_what_is_replaced(self):
-        # An answer that is not a legal move, in upper or lower case, and a missing one.
+        # An answer that is not a legal move (in upper or lower case), and a missing answer.
         board = self.board(self.play(2, "NIL", ["(TAKE  2)", "<script>"]) + self.play(3, "((take 2) noop)", [SILENT, "(take 2)"]))
         self.assertEqual([turn.errors for turn in board.turns()], [("", "IL <script>"), (SILENT, "IL (take 2)")])
         self.assertEqual((board.turns()[-1].moves, self.heap(board), board.trouble), (("noop", "(take 1)"), "(heap 0)", ""))

@@ -56,7 +56,7 @@ TESTS = os.getpid()
 
 
 def killed(_):
-    # The process of the tests must not end, even if the work is not split.
+    # The process of the tests must not exit, even if the work is not split.
     assert os.getpid() != TESTS
     os._exit(1)
 
@@ -77,7 +77,7 @@ class SideBySide(unittest.TestCase):
         self.assertEqual(list(made_side_by_side(number_text, [])), [])
 
     def test_a_process_that_is_killed_is_a_shortage(self):
-        # Other tests may have left a thread, with which the work would not be split.
+        # Other tests may have left a thread; with such a thread, the work would not be split.
         with patch("threading.active_count", return_value=1), self.assertRaisesRegex(Unchecked, "a process was killed"):
             list(made_side_by_side(killed, [(1,), (2,)]))
 
@@ -85,7 +85,7 @@ class SideBySide(unittest.TestCase):
 class Knockout(unittest.TestCase):
     def seen(self, form, *goals_by_round):
         """Returns what the first page shows of a competition of three players before each round and at the end: the pairs of the bracket, the players
-        that advanced, and the first one. Also returns the last page and the last match."""
+        that advanced, and the leader. Also returns the last page and the last match."""
         folder = Folder(pathlib.Path(self.enterContext(tempfile.TemporaryDirectory())))
         players = [(name, f"h:{at}") for at, name in enumerate(("ann", "bob", "cid"), 1)]
         competition = read_competition(toml(players, [("one", "f", 'board = "hex"')], form).encode())
@@ -303,7 +303,7 @@ class PagesOfMany(unittest.TestCase):
         before = untouched.stat().st_ino, changed.stat().st_ino
         pages.write(self.results[:3])
         self.assertEqual((untouched.stat().st_ino == before[0], changed.stat().st_ino == before[1]), (True, False))
-        # Pages that another run has deleted meanwhile are made again.
+        # Pages that another run has deleted in the meantime are made again.
         text = untouched.read_text()
         untouched.unlink()
         pages.write(self.results[:3])

@@ -79,7 +79,7 @@ class Conditions(unittest.TestCase):
         self.assertEqual(found, Rule(0, ("h", 1), ("?x",), (asked("p", "?x"), Either(((asked("q", "?x"),), (asked("r", "?x", positive=False),))))))
         found = rules("(<= (h ?x) (or (p ?x) (q ?x)))")
         self.assertEqual([rule.body for rule in found], [(asked("p", "?x"),), (asked("q", "?x"),)])
-        # Then it may have any number of ways.
+        # In this case it may have any number of ways.
         ors = " ".join("(or (q ?x) (r ?x))" for _ in range(40))
         self.assertEqual(len(rules(f"(<= (h ?x) (p ?x) {ors})")), 1)
         # A negation or an equality binds nothing.
@@ -185,7 +185,7 @@ class Estimates(unittest.TestCase):
 
 
 class Games(unittest.TestCase):
-    """Queries about a game, and the sentences that derive the answers."""
+    """Tests of queries about a game, and of the sentences that derive the answers."""
 
     TEXT = """(role a) (role b) (init s) (n 1) (n 2) (legal a go) (<= (legal a stay) (true s)) (<= (legal a go) (true s)) (<= (legal b (m ?x)) (n ?x))
     (<= (next (did ?r ?m)) (does ?r ?m)) (<= terminal (true t)) (goal a 100) (goal a 5) (goal a 101) (goal a x) (goal a (f 1)) (goal a 05) (<= (goal b 7) (true s))"""

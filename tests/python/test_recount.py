@@ -20,7 +20,7 @@ MANY = 120
 
 
 def tables(*words):
-    """Returns the tables without ratings, which have other tests."""
+    """Returns the tables without ratings: these have separate tests."""
     return tables_of(*words, is_rated=False)
 
 

@@ -44,7 +44,8 @@ class Served(unittest.TestCase):
     NAMES = ORIGINS = ()
 
     def setUp(self):
-        # On a busy computer a look at the records, and the referee, may take long. Here nothing waits for that, and nothing is late.
+        # On a busy computer, reading the records and asking the referee may take a long time. These tests do not wait for them, and do not fail
+        # because of them.
         self.enterContext(patch.object(live, "clock", lambda: 1_000.0))
         for name, value in (("SHARE", 0), ("JUDGING_SHARE", 0), ("READING", 1e9)):
             self.enterContext(patch.object(live, name, value))
@@ -93,7 +94,7 @@ class Served(unittest.TestCase):
         return text
 
     def opened(self, path, method="GET", **headers):
-        """Returns an answer that is still to be read."""
+        """Returns an answer whose body has not been read."""
         asking = http.client.HTTPConnection("127.0.0.1", self.port, timeout=60)
         self.addCleanup(asking.close)
         asking.request(method, path, headers=headers)
@@ -281,7 +282,7 @@ class Pages(Served):
             self.site.reader.look_at_record(self.site.reader.unread.popleft())
             self.site.next_tables = 0.0
             self.look()
-            # Ratings by some of the records are not shown, and may take long.
+            # Ratings from a part of the records are not shown, and may take a long time.
             self.assertEqual([row[-1] for row in rows_of(parsed(self.page("/")).find(id="standings"))[1:]], ["none"] * 2)
         self.site.next_tables = 0.0
         self.look()
@@ -417,7 +418,7 @@ class Pages(Served):
         self.assertNotIn("bob was restarted", self.page("/"))
 
     def test_a_silent_player_is_named_once_that_says_nothing_of_a_turn(self):
-        """A player that may play several matches at once can be silent in an open turn and to the INFO of another match."""
+        """A player that may play several matches at once may be silent both in an open turn and to the INFO of another match."""
         match, other = [match for match in self.plan.matches if "ann" in match.players][:2]
         log = begin(self.plan, match, started(match) + self.play(match, 2, "NIL", ["(take 1)", "noop"]))
         (self.plan.folder.open / other.id).mkdir()
@@ -450,14 +451,14 @@ class Delayed(Served):
         self.look()
 
     def look_at(self, seconds):
-        """Reads the directory this many seconds later. Returns how many matches are open and over by the first page."""
+        """Reads the directory this many seconds later. Returns how many matches are open and how many are over according to the first page."""
         self.moment += seconds
         self.look()
         first = self.page("/")
         return re.search("[0-9]+ match(es are| is) open", first)[0], re.search("[0-9]+ of 6", first)[0]
 
     def test_everything_is_shown_late(self):
-        # The log may have any time of day, or none, and so may the record.
+        # The log and the record may have any time of day, or none.
         for time_of_day in (None, 0, 10**12, 10**14):
             with self.subTest(time_of_day):
                 self.begin_late()
@@ -506,7 +507,7 @@ class Delayed(Served):
             end(self.plan, over, record_of(over, *turns, [0, 100]))
         self.look_at(1)
         self.assertEqual(self.look_at(61)[1], "2 of 6")
-        # The page of the match was not requested so far.
+        # The page of the match has not been requested so far.
         places = f"/matches/{match.id}.html", f"/api/matches/{match.id}", "/", "/players/player-ann.html", "/matches.html", "/api/table"
         end(self.plan, match, record_of(match, [["(take 1)", "noop"]], [["IL (zq)", ""]], [100, 0]))
         self.plan.folder.record(other.id).unlink()
@@ -533,7 +534,7 @@ class Delayed(Served):
 
     def test_a_plan_is_shown_late(self):
         self.plan.folder.schedule.write_text("another")
-        # The time of the file does not matter.
+        # The file's modification time does not matter.
         os.utime(self.plan.folder.schedule, (0, 0))
         reader = self.site.reader
         self.look()

@@ -1,4 +1,4 @@
-"""Data of `serve` for other programs: JSON, events and numbers. Also which pages may show its pages, with and without a proxy."""
+"""Data of `serve` for other programs: JSON, events and numbers. Other sites may embed its pages only if this is allowed, with and without a proxy."""
 
 import errno
 import json
@@ -104,7 +104,7 @@ class Data(Served):
         version = re.search(rb"id: (\d+)", feed.readline())[1].decode()
         missed = self.feed(f"?after={version}")
         self.assertEqual([row["id"] for row in self.next_event(missed)["matches"]], [self.plan.matches[1].id])
-        # An unknown version leads to the present one.
+        # An unknown version leads to the current one.
         self.assertTrue(self.next_event(self.feed("?after=1"))["reload"])
 
     def test_what_is_not_there(self):
@@ -131,7 +131,7 @@ class Front(Served):
     def test_behind_the_proxy_of_the_document(self):
         """nginx has the server of docs/SERVING.md, except for the ports."""
         server = re.search(r"(?ms)^    server \{.*?^    \}", (TOP / "docs/SERVING.md").read_text())[0]
-        # nginx takes over a socket that is listening already, as from an nginx that it replaces.
+        # nginx takes over a socket that is already listening, as it does when it replaces another nginx.
         listening = self.enterContext(socket.create_server(("127.0.0.1", 0)))
         server = server.replace(":8000;", f":{self.port};")
         self.port = listening.getsockname()[1]
@@ -150,7 +150,7 @@ class Front(Served):
         feed = self.opened("/cup/api/events", **host)
         begin(self.plan, self.plan.matches[0])
         self.look()
-        # It is passed on while the stream is open.
+        # The event is passed on while the stream is open.
         self.assertEqual(self.next_event(feed)["matches"][0]["state"], "open")
 
 

@@ -1,5 +1,5 @@
 """The pages of ggp-show-record: they have each turn, state, move and mark of the record, all text as text, and nothing that a browser would load or
-run except the page's own script. Other files are refused with the reason."""
+run except the page's own script. The command refuses other files, and prints the reason."""
 
 import copy
 import json
@@ -26,7 +26,7 @@ submit m 0 3 noop
 """
 ERRORS = [["", "TO"], ["IL ?", "CE"], ["IL noop", "RT"]]
 HOSTILE = ["<script>alert(1)</script>", "\"'><img src=x onerror=alert(1)>", "</script></table><b>", "&lt;&#65;", "<!--", "\\", "\u202e\x00\x7f\ud800"]
-# States, with how many boards are drawn of them.
+# States, each with the number of boards that are drawn for it.
 FORMS = [
     (["(cell 1 1 x)", "(cell 2 3 b)"], 1),
     (["(cell a 1 white rook)", "(cell c 2 black king)"], 1),
@@ -81,7 +81,7 @@ def parts_of(record: dict) -> tuple[dict, dict]:
     shown = parsed(page)
     moves, errors, roles, players = texts_of(record)
     players_rows = rows_of_text(shown.select("table.players td"), 7)
-    # A term is on a board or in the list, so none is in both, and none in neither.
+    # A term is either on a board or in the list: no term is in both, or in neither.
     on_boards = sum(bool(cell.text) or cell.has_attr("title") for cell in shown("i")) + len(shown("br"))
     found = {
         "turns": len(shown.select("tr.turn")),

@@ -1,4 +1,4 @@
-"""Checking records by many processes gives the same results as one process. A fake program accepts lines with `ok`, and treats lines that begin with
+"""Checking records with many processes gives the same results as with one. A fake program accepts lines with `ok`, and treats lines that begin with
 a digit as lines of call logs."""
 
 import contextlib
@@ -112,7 +112,7 @@ class Checks(WithProgram):
 
     def test_a_fault_of_the_program(self):
         self.assertEqual(self.checked(b"ok\nshort\n"), (b"lawful\n", 0, 0, (b"ggp_manager: want of memory\n", 2)))
-        # With an unlawful record the status is 1, otherwise 0.
+        # With an unlawful record, the exit status is 1, otherwise 0.
         for name, row, status in (("silent", "", 1), ("wrong", verdict_rows("goals").decode(), 0), ("fault", verdict_rows("goals").decode(), 2)):
             program = self.stand_in(name, f"#!/bin/sh\ncat > /dev/null\necho said >&2\nprintf '%s' '{row}'\nexit {status}\n")
             self.assertEqual(self.checked(b"no\n", program)[1:], (0, 0, (b"said\n", 2)), name)
@@ -239,7 +239,7 @@ class Commands(WithProgram):
     def test_how_a_run_ends(self):
         words, more = ("--jobs", "3", "--piece", "9", "p", "--"), (["p", "verify", "--lines"], 3, 9)
         self.assertEqual(self.ended(*words), (0, more, b"", []))
-        # Ctrl-C ends it like the program, unless the signal is ignored.
+        # Ctrl-C ends the command like the program, unless the signal is ignored.
         self.assertEqual(self.ended(*words, handler=signal.default_int_handler)[3], [(signal.SIGINT, signal.SIG_DFL)])
         for fault, said, status in ((Fault(b"no\n", 1), b"no\n", 1), (Fault(b"bad\n"), b"bad\n", 2), (MemoryError(), b"ggp_manager: want of memory\n", 2)):
             self.assertEqual(self.ended(*words, fault=fault), (status, more, said, []))
