@@ -1,4 +1,4 @@
-"""Records are checked with the published description. Differences are found, and reported with the sentence that shows them."""
+"""Records are checked against the published description. The check finds each difference, and reports it with the sentence that shows it."""
 
 import contextlib
 import json
@@ -99,7 +99,7 @@ class Followed(unittest.TestCase):
         for played_so in (one, other, one, other, none, one, none, other):
             words = "differs: the roles are a b by the description, and a c in the record" if played_so is none else "the same: 1 turn"
             self.assertEqual(held(holding, *played_so), words)
-        # After the turn b has no legal move.
+        # After this turn, b has no legal move.
         holding = Holding(f"{rules.replace('(legal b stay)', '(<= (legal b stay) (true s))')} (<= terminal (true t)) (goal a 70)")
         for (roles, moves, _), stuck in ((one, 1), (other, 0)):
             words = [held(holding, roles, moves, [], phase="aborted", cause=f"nolegal {at}") for at in (stuck, 1 - stuck)]
@@ -125,7 +125,7 @@ class Followed(unittest.TestCase):
         turns = {"moves": [("go",), ("stay",)], "states": [["s"], ["t"], ["s"]], "roles": ("ann",)}
         said = "turn 2, ann: the record plays stay instead of an answer, but go comes before it, by sentence 2, line 1: (<= (legal ann go) (true t))"
         self.assertEqual(self.words(rules, **turns, errors=[[""], ["TO"]]), said)
-        # A move that a sentence was seen to derive in one state has its place by this sentence in the others.
+        # If a sentence was seen to derive a move in one state, the move has the place of this sentence in other states too.
         turns = {"moves": [("stay",), ("stay",), ("stay",)], "states": [["s"], ["t"], ["s"], ["t"]], "roles": ("ann",)}
         following = Following(Game(rules))
         following.seen["ann", "go"] = 2

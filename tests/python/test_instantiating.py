@@ -255,7 +255,7 @@ class Rounds(unittest.TestCase):
             self.compare(rules, found, [(str(a), str(b)) for a, b in itertools.product(places, repeat=2) if dice.random() < 0.2])
 
     def test_ways_that_go_over_others_outside_are_not_halved(self):
-        # Any two paths make a longer one, but some of these are part of no other: the path from 0 to 0 over 4, 1 and 2 is not made of halves.
+        # Any two paths make a longer one, but some paths are part of no other: the path from 0 to 0 over 4, 1 and 2 is not made of halves.
         ends = ["00", "02", "04", "10", "11", "12", "14", "20", "24", "40", "41", "44"]
         rules = [Rule(1, ("w", *way), (Literal(True, ("true", way)),)) for way in ends]
         for way, onward in itertools.product(ends, repeat=2):
@@ -265,7 +265,7 @@ class Rounds(unittest.TestCase):
         self.compare(rules, self.unrolled(rules, 11), ["04", "41", "12", "20"])
 
     def test_stones_need_fewer_rounds(self):
-        # Four by four cells of six neighbours, and the stones that are joined to the first row.
+        # 4×4 cells with six neighbours each, and the stones that are joined to the first row.
         cells = list(itertools.product(range(4), repeat=2))
         sides = (1, 0), (0, 1), (1, -1), (-1, 0), (0, -1), (-1, 1)
         named = {cell: f"{cell[0]}{cell[1]}" for cell in cells}
