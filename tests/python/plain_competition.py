@@ -111,7 +111,7 @@ def points_of(records, forfeit):
 
 
 def swiss_standings(names, games, rounds, records, forfeit):
-    """Returns the players in order with points and Buchholz's number, after rounds. Each round has pairs, and a bye or None."""
+    """Returns the players in order with points and Buchholz score, after rounds. Each round has pairs, and a bye or None."""
     points, _ = points_of(records, forfeit)
     total = {name: points.get(name, 0) + sum(2 * games for _, bye in rounds if bye == name) for name in names}
     buchholz = {name: sum(total[(set(pair) - {name}).pop()] for pairs, _ in rounds for pair in pairs if name in pair) for name in names}

@@ -102,7 +102,7 @@ class Rules(InArchive):
         schedule = [line.split("\t")[4].split() for line in (self.folder / "schedule.tsv").read_text().splitlines()[1:]]
         self.assertEqual((len(schedule), {name for pair in schedule[4:] for name in pair}), (8, {"ann", "bob", "cid"}))
         lines, notes = self.table()
-        # The matches against eve and dan are points of byes, and add nothing to Buchholz's number.
+        # The matches against eve and dan are points of byes, and add nothing to the Buchholz score.
         self.assertEqual(sorted(line["byes"] for line in lines.values()), [1, 2, 2])
         self.assertEqual(sum(line["points"] for line in lines.values()), 2 * 5 + 4)
         absent = "eve has withdrawn: absent in 1 whole round; the matches that it has played do not count"

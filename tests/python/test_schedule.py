@@ -82,7 +82,7 @@ class Schedule(unittest.TestCase):
 
     def test_two_players_meet_in_whatever_seats_they_sit(self):
         plan = types.SimpleNamespace(competition=read_competition(toml([(f"p{at}", f"h:{at + 1}") for at in range(3)], [("g0", "f")]).encode()), roles=lambda _: ("a", "b"))
-        self.assertEqual(counts_of_game(plan, matches(3, 2)), "6 matches, roles a b; each player in each role: 2; each two players: 2")
+        self.assertEqual(counts_of_game(plan, matches(3, 2)), "6 matches, roles a b; each player in each role: 2; each pair of players: 2")
 
     def test_the_limit_of_matches(self):
         self.assertEqual(len(matches(1_000, 1, 'kind = "round_robin"\nrounds = 100')), MOST_MATCHES)

@@ -9,7 +9,7 @@ from collections.abc import Iterable, Iterator
 
 from ggp_tools.competition.competition_file import Competition, Mistake, Player
 
-# All names together are looked up within this many seconds, because a resolver may not answer.
+# All names are looked up within this many seconds in total, because a resolver may not answer.
 SECONDS = 10
 LOOPBACK = {4: "127.0.0.1", 6: "::1"}
 # An address, with the interface if it needs one, and a port.
@@ -17,8 +17,8 @@ Place = tuple[str, int]
 
 
 def address_of(resolved: tuple) -> str:
-    """Returns an address from `getaddrinfo` in one form: an IPv4 address in IPv6 notation becomes IPv4, and the unspecified address becomes this
-    computer's."""
+    """Returns an address from `getaddrinfo` in one form: an IPv4 address in IPv6 notation becomes IPv4, and the unspecified address becomes the
+    loopback address."""
     address = ipaddress.ip_address(resolved[0].partition("%")[0])
     address = getattr(address, "ipv4_mapped", None) or address
     text = LOOPBACK[address.version] if address.is_unspecified else str(address)
@@ -40,7 +40,7 @@ def looked_up(hosts: Iterable[str]) -> dict[str, list[str]]:
     def look_up(name: str) -> None:
         addresses[name] = addresses_of(name)
 
-    # A thread whose resolver does not answer goes on, and does not keep the process.
+    # A thread whose resolver does not answer continues to run, but does not keep the process alive.
     threads = [threading.Thread(target=look_up, args=(host,), daemon=True) for host, numeric in addresses.items() if not numeric]
     until = time.monotonic() + SECONDS
     for thread in threads:
@@ -85,7 +85,8 @@ def takes_connections(place: Place) -> bool:
 
 
 def written(name: str, places: list[Place]) -> str:
-    """Returns a player for the command of the referee, with the first of its addresses that accepts a connection now, or else with the first one."""
+    """Returns a player as an argument for the referee, with the first of its addresses that accepts a connection now, or else with the first
+    address."""
     host, port = next(filter(takes_connections, places), places[0]) if len(places) > 1 else places[0]
     return f"{name}@[{host}]:{port}" if ":" in host else f"{name}@{host}:{port}"
 

@@ -28,7 +28,7 @@ from ggp_tools.records.match_logs import logged
 from ggp_tools.referee import VERSION_LINE, Referee, Unchecked, has_events
 
 SUMS, VERSION, HOW, GAPS = "SHA256SUMS", "VERSION", "CHECK.txt", "GAPS.tsv"
-# The greatest length of VERSION, and how many errors of an archive are reported.
+# The greatest length of VERSION, and the greatest number of errors that are reported for an archive.
 MOST_OF_VERSION, MOST_FAULTS = 100, 100
 # These errors come from this computer, and say nothing about an archive.
 SHORTAGES = errno.ENOSPC, errno.EDQUOT, errno.EIO, errno.EMFILE, errno.ENFILE, errno.ENOMEM
@@ -59,13 +59,13 @@ No check shows that these players sent these answers, or when. Keep the checksum
 """
 
 
-# A file of an archive: its name, and its bytes, the file that has them, or a function that reads them.
+# A file of an archive: its name, and its contents as bytes, as the path of a file, or as a function that returns them.
 Data = bytes | pathlib.Path | Callable[[], bytes]
 Content = tuple[str, Data]
 
 
 def files_below(folder: pathlib.Path) -> dict[str, pathlib.Path]:
-    """Returns the files below a directory in order, by their paths from there."""
+    """Returns the files below a directory by their relative paths, in order."""
     return {str(file.relative_to(folder)): file for file in sorted(folder.rglob("*")) if file.is_file()}
 
 
@@ -88,7 +88,7 @@ def matches_text(plan: Plan, results: Sequence[Result]) -> bytes:
 
 
 def gaps_files(plan: Plan, results: Iterable[Result]) -> dict[str, bytes]:
-    """Returns the file that lists the matches without a record, by its name. It is missing if each round is planned and each match has a record."""
+    """Returns the file that lists the matches without a record, by its name. There is none if each round is planned and each match has a record."""
     missing = without_record(plan, results)
     return {GAPS: schedule_text(missing)} if missing or rounds_left(plan) else {}
 
@@ -121,7 +121,8 @@ def contents(plan: Plan, referee: Referee, results: list[Result], pages: Iterabl
 
 
 def publish(plan: Plan, referee: Referee, results: list[Result], path: pathlib.Path, known: Known) -> str:
-    """Writes the archive, which is the same for the same files, and returns its checksum. Pages of matches that are known are not made again."""
+    """Writes the archive, and returns its checksum. The same files always give the same archive. Pages of matches that are known are not made
+    again."""
     pages = Pages(plan, True, known).write(results)
     with written_whole(path) as file:
         files = with_sums(contents(plan, referee, results, pages))
@@ -136,7 +137,7 @@ def bytes_of(data: Data) -> bytes:
 
 
 def with_sums(contents: Iterable[Content]) -> Iterator[tuple[str, bytes]]:
-    """Yields the names and bytes of the files that are published, and last the file of their checksums."""
+    """Yields the names and bytes of the files that are published, and then those of the file with their checksums."""
     sums = {}
     for name, data in contents:
         data = bytes_of(data)
@@ -146,7 +147,7 @@ def with_sums(contents: Iterable[Content]) -> Iterator[tuple[str, bytes]]:
 
 
 def faults_of_sums(folder: pathlib.Path) -> Iterator[str]:
-    """Yields each file that does not agree with the file of checksums."""
+    """Yields an error for each file that does not agree with the checksums."""
     files = files_below(folder)
     if SUMS not in files:
         yield f"{SUMS} is missing"
@@ -170,7 +171,7 @@ def has_bytes(file: pathlib.Path, data: bytes) -> bool:
 
 
 def faults_of_files(plan: Plan, referee: Referee, results: list[Result]) -> Iterator[str]:
-    """Yields each file that `publish` would write with other contents, and each that it would not write."""
+    """Yields an error for each file that is missing, that `publish` would write with other contents, or that it would not write."""
     folder = plan.folder
     files = {name: file for name, file in files_below(folder.path).items() if not name.startswith("pages/")}
     # The pages of the archive make room for those that are made again. No file of an archive has this name.
@@ -198,13 +199,13 @@ def faults_of_matches(plan: Plan, referee: Referee) -> tuple[list[Result], list[
         *(f"{match}: {why}" for match, why in (faults | misfits).items()),
         *(f"{match.id}: it has no record" for match in gaps),
         *(f"{match.id}: its log is missing" for match in without_log),
-        *(f"records/{name}: it is of no match of the schedule" for name in unplanned_records(plan)),
+        *(f"records/{name}: it belongs to no match of the schedule" for name in unplanned_records(plan)),
         *faults_of_logs(plan, in_order(plan, results), is_published=True),
     ]
 
 
 def version_of(folder: pathlib.Path) -> str:
-    """Returns the version of the program with which an archive was published. Refuses one whose logs only an earlier version reads."""
+    """Returns the version of the program with which an archive was published. Refuses an archive whose logs only an earlier version can read."""
     version = file_bytes(folder / VERSION, MOST_OF_VERSION) if (folder / VERSION).is_file() else b""
     if not VERSION_LINE.fullmatch(version):
         raise Spoilt(f"{VERSION} is not one line `ggp_manager N.N.N`" if version else f"{VERSION} is missing")
@@ -215,7 +216,7 @@ def version_of(folder: pathlib.Path) -> str:
 
 
 def check_archive(path: pathlib.Path, referee: Referee) -> tuple[list[str], str]:
-    """Returns what is wrong with an archive, in lines of printable ASCII and limited length, or else a sentence about what is right."""
+    """Returns the errors in an archive, as lines of printable ASCII of limited length, and if there are none, a sentence about what is right."""
     try:
         with tempfile.TemporaryDirectory() as empty:
             try:
@@ -235,7 +236,7 @@ def check_archive(path: pathlib.Path, referee: Referee) -> tuple[list[str], str]
 
 
 def compared_side_by_side(file: pathlib.Path, records: Sequence[bytes]) -> list[str]:
-    """Returns how each record compares with a description. Each of several processes compares a part of them."""
+    """Returns how each record compares with a description. Each of several processes compares a part of the records."""
     size = -(-len(records) // PROCESSORS)
     parts = [records[at : at + size] for at in range(0, len(records), size)]
     with concurrent.futures.ThreadPoolExecutor(PROCESSORS) as pool:
@@ -243,7 +244,8 @@ def compared_side_by_side(file: pathlib.Path, records: Sequence[bytes]) -> list[
 
 
 def compared_matches(plan: Plan, results: list[Result], folder: pathlib.Path) -> tuple[str, list[str]]:
-    """Compares the matches of each game with variables with its description. Returns a remark about that, and the differences."""
+    """Compares the matches of each game whose description has variables with this description. Returns a remark about the comparison, and the
+    differences."""
     count, not_followed, faults = 0, [], []
     for game in plan.competition.games:
         file, matches = folder / f"games/{game.name}.kif", [result.match for result in results if result.match.game == game.name]
@@ -260,19 +262,19 @@ def compared_matches(plan: Plan, results: list[Result], folder: pathlib.Path) ->
 
 
 def refuse(faults: Iterable[str]) -> None:
-    """Refuses an archive for these faults, if there are any."""
+    """Refuses an archive that has these errors, if there are any."""
     if lines := [fault.replace("\n", "?") for fault in faults]:
         raise Spoilt("\n".join(lines))
 
 
 def what_is_right(path: pathlib.Path, empty: pathlib.Path, referee: Referee) -> str:
-    """Unpacks an archive into an empty directory, and returns what is right. Raises `Refused` with everything that is wrong."""
+    """Unpacks an archive into an empty directory, checks it, and returns what is right. Raises `Refused` with everything that is wrong."""
     folder = unpack(path, empty)
     made_by = version_of(folder)
     refuse(faults_of_sums(folder))
     plan = read_plan(folder, referee)
     if folder.name != plan.competition.name:
-        raise Spoilt(f"its folder is {folder.name}, and the name of the competition {plan.competition.name}")
+        raise Spoilt(f"its directory is {folder.name}, and the name of the competition is {plan.competition.name}")
     results, faults = faults_of_matches(plan, referee)
     faults += [fault.replace(f"{folder}/", "") for fault in faults_of_descriptions(plan, lambda game: folder / f"games/{game.name}.kif")]
     refuse(faults)

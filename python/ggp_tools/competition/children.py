@@ -18,7 +18,7 @@ from ggp_tools.referee import Referee
 MOST_AT_ONCE = 1 << 16
 # At most this many players are sent ABORT at the same time.
 MOST_ABORTS = 1_024
-# The seconds for what a process has sent in its time: some moments for one that seems to run, and more for one that has ended.
+# When the time of a process is over, its output is awaited for this many more seconds: SOON if it seems to be running, LATE if it has ended.
 SOON, LATE = 0.1, 10
 
 
@@ -40,14 +40,15 @@ class Watched(asyncio.subprocess.SubprocessStreamProtocol):
 
 @contextlib.asynccontextmanager
 async def started(words: list[str], ends_itself: bool = False) -> AsyncIterator[tuple[asyncio.subprocess.Process, asyncio.Event]]:
-    """Yields a process, and an event that is set when it has ended. On exit the process and its group are killed. They are also killed when this
-    process ends, unless the process does that itself. Ctrl-C at the terminal does not reach it."""
+    """Starts a process, and yields it with an event that is set when it has ended. On exit, the started process and its group are killed. If this
+    process ends, the started process is killed too, unless `ends_itself` says that it then ends by itself. Ctrl-C at the terminal does not reach
+    it."""
     loop, before = asyncio.get_running_loop(), () if ends_itself else (*WITH_PARENT, str(os.getpid()))
     if not shutil.which(words[0]):
         raise FileNotFoundError(errno.ENOENT, os.strerror(errno.ENOENT), words[0])
     starting = asyncio.create_task(loop.subprocess_exec(Watched, *before, *words, start_new_session=True))
     try:
-        # If this is cancelled, asyncio would kill only the process, and wait for the processes that it has started.
+        # Without the shield, a cancellation would kill only the process itself, and asyncio would wait for the processes that it has started.
         transport, watched = await asyncio.shield(starting)
         yield asyncio.subprocess.Process(transport, watched, loop), watched.ended
     finally:
@@ -61,7 +62,7 @@ async def started(words: list[str], ends_itself: bool = False) -> AsyncIterator[
 
 @dataclass
 class Done:
-    """A process that has ended, with its standard output and error. Its status is None if its time was over."""
+    """A process that has ended, with its standard output and error. Its status is None if its time ran out."""
 
     status: int | None
     output: bytes
@@ -69,11 +70,11 @@ class Done:
     seconds: float
 
     def verdict(self) -> dict:
-        """Returns the JSON object that the process printed. It is empty if there is none."""
+        """Returns the JSON object that the process printed, or an empty one."""
         return json.loads(self.output or b"{}")
 
     def message(self) -> str:
-        """Returns the last line of standard error, or how the process ended if there is none."""
+        """Returns the last line of standard error or, if there is none, how the process ended."""
         return (message_lines(self.errors) or [f"{ended_words(self.status)}, without a message"])[-1]
 
 
@@ -93,7 +94,7 @@ async def run(words: list[str], given: bytes = b"", seconds: float | None = None
 
 
 async def is_answered(referee: Referee, match: str, place: str, slots: asyncio.Semaphore) -> bool:
-    """Sends a player ABORT. Returns whether it answered; it counts as silent if this computer is out of a resource."""
+    """Sends ABORT to a player. Returns whether the player answered; if the command cannot be run, the player counts as silent."""
     async with slots:
         try:
             return (await run(referee.abort_words(match, place))).status == 0
@@ -102,8 +103,8 @@ async def is_answered(referee: Referee, match: str, place: str, slots: asyncio.S
 
 
 async def send_aborts(referee: Referee, places: dict[str, list[str]], seconds: float | None = None) -> dict[str, list[str]]:
-    """Sends ABORT for matches that no referee plays any more, to many players at the same time. The addresses of the players are given by the ids of
-    the matches. Returns in the same form the players that did not answer within 10 seconds, or within the given ones."""
+    """Sends ABORT for matches that no referee plays any more, to many players at the same time. `places` has the addresses of the players by match
+    id. Returns, in the same form, the players that did not answer within `seconds`, or within 10 seconds if that is None."""
     slots = asyncio.Semaphore(MOST_ABORTS)
     sent = {(match, place): asyncio.create_task(is_answered(referee, match, place, slots)) for match in places for place in places[match]}
     if sent:

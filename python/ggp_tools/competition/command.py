@@ -33,7 +33,7 @@ from ggp_tools.streams import PACKED, ready_streams, say, whole
 
 MOST_AT_ONCE = 1_024
 DIRECTORY = "the directory of the competition, with competition.toml (the current one)"
-# At most this many matches that are missing for the same reason have their own lines.
+# If more matches than this are missing for the same reason, they share a line.
 MOST_LINES = 10
 HELP = "Runs a competition of game players from one directory, whose file competition.toml describes it."
 STATUS = """exit status 0: success; with `play`, each match has a lawful record. 1: failure. 2: the command or competition.toml is wrong. 3: the referee
@@ -131,7 +131,7 @@ def counts_of_game(plan: Plan, matches: list[Match]) -> str:
     in_roles = spread([played[role, name] for role in range(len(roles)) for name in names])
     pairs = spread([met[player, other] for player in names for other in names if player < other])
     counts = f"{counted(len(matches), 'match')}, roles {' '.join(roles)}; each player in each role: {in_roles}"
-    return f"{counts}; each two players: {pairs}" if len(roles) > 1 else counts
+    return f"{counts}; each pair of players: {pairs}" if len(roles) > 1 else counts
 
 
 def preview(path: str, referee: Referee) -> int:
@@ -195,7 +195,7 @@ def run_again(asked: argparse.Namespace, referee: Referee) -> int:
 
 
 def error_of_pages(write: Callable[..., object], *arguments: object) -> str | None:
-    """Writes pages. Returns the error if that fails, because the matches go on."""
+    """Writes pages. If that fails, returns the error instead of raising it, because the matches go on."""
     try:
         write(*arguments)
         return None
@@ -204,7 +204,7 @@ def error_of_pages(write: Callable[..., object], *arguments: object) -> str | No
 
 
 def missing_lines(missing: dict[str, str]) -> Iterator[str]:
-    """Yields lines about the missing matches, with the reasons. Many with the same reason share a line."""
+    """Yields lines about the missing matches, with the reasons. Many matches with the same reason share a line."""
     by_reason: dict[str, list[str]] = {}
     for match, why in missing.items():
         by_reason.setdefault(why, []).append(match)
@@ -263,7 +263,7 @@ def run_table(asked: argparse.Namespace, referee: Referee) -> int:
     checked = [known_results(plan, referee, facts) for plan, facts in zip(plans, known)]
     results = [result for results, _ in checked for result in results]
     tables = tables_of(plan.competition, results, plan.rounds)
-    # It is printed even if it can't be written.
+    # The table is printed even if it can't be written.
     say(table_text(plan, tables), end="")
     if len(plans) == 1:
         write_matches(plan, results)
@@ -315,7 +315,7 @@ def publish_planned(asked: argparse.Namespace, referee: Referee) -> int:
     missing, left = len(without_record(plan, results)), rounds_left(plan)
     faults = []
     if missing and (is_faulty or not asked.gaps):
-        # A record that is wrong is not a gap: the match is played again, or the record corrected.
+        # A wrong record is not a gap: the match must be played again, or the record corrected.
         faults = [f"{counted(missing, 'match', 'has', 'have')} no lawful record{'' if is_faulty else '; with `--gaps` the others are'}"]
     elif left and not asked.gaps:
         faults = [f"{left} of {left + len(plan.rounds)} rounds are not planned yet; with `--gaps` the others are"]

@@ -19,7 +19,7 @@ CONTROL = re.compile(r"[\x00-\x1f\x7f-\x9f]")
 MOST_SHOWN, MOST_MISTAKES = 200, 100
 # The greatest size of the file.
 MOST_OF_COMPETITION = 4 << 20
-# The most matches at the same time: for a player, for a launcher, and for all together.
+# The greatest number of matches at a time, for a player and for a launcher.
 MOST_AT_A_TIME = 1_024
 MOST_SECONDS, MOST_STRIKES, MOST_PLAYERS, MOST_GAMES, MOST_ROUNDS, MOST_PORT = 86_400, 255, 1_000, 1_000, 1_000, 65_535
 # When a player with a command is restarted: if it is dead, for each match, or never.
@@ -30,7 +30,7 @@ MEMORY = re.compile(r"([1-9][0-9]{0,5})([KMGT])")
 MOST_PROCESSORS, MOST_START_SECONDS, MOST_RATING = 4_096, 3_600, 10_000
 # The default time limit for making a description ground, in seconds, and the greatest one.
 INSTANTIATING, MOST_INSTANTIATING = 60, 1_000_000
-# The forms that plan each round by the results of the round before.
+# The forms that plan each round from the results of the previous one.
 ROUND_KINDS = SWISS, KNOCKOUT = "swiss", "knockout"
 ROUND_KEYS = ("absent_rounds", "pause")
 # The keys of each kind besides `kind`.
@@ -84,7 +84,7 @@ class Text:
 
 
 def spelled(value: object) -> str:
-    """Returns a value of the file in the form for messages."""
+    """Returns a value of the file as messages show it."""
     if isinstance(value, dict | list):
         return "a table" if isinstance(value, dict) else "an array"
     if isinstance(value, bool):
@@ -92,7 +92,7 @@ def spelled(value: object) -> str:
     try:
         return shown(repr(value), MOST_SHOWN)
     except ValueError:
-        # Python converts no number of more than 4,300 digits.
+        # Python does not convert numbers of more than 4,300 digits.
         return "a number of many digits"
 
 
@@ -116,7 +116,7 @@ class Section:
         self.mistake(key, f"expected {what}, found {spelled(found)}", line)
 
     def read(self, kind: type, **given: object) -> Any:
-        """Returns an object of this class: a field is given, or read from its key."""
+        """Returns an object of this class. Each field is given, or read from its key."""
         return kind(**{of.name: of.metadata["read"](self, of.name) for of in fields(kind) if of.name not in given and "read" in of.metadata}, **given)
 
     def part(self, key: str, kind: type, default: object = None) -> Any:
@@ -176,7 +176,7 @@ class Section:
         return found
 
     def reason(self, key: str) -> str | None:
-        """Returns a reason: an empty one for `true`, None for `false` or without the key."""
+        """Returns a reason: an empty one for `true`, None for `false` or if the key is missing."""
         found = self.table.get(key, False)
         if type(found) is bool:
             return "" if found else None
@@ -244,7 +244,8 @@ class Section:
         return {str(table.get("name")) for table in tables if isinstance(table, dict)} if isinstance(tables, list) else set()
 
     def sections(self, key: str, most: int) -> list["Section"]:
-        """Returns a section for each table of an array of tables, which must have one, or for the first of them if there are too many."""
+        """Returns a section for each table of an array of tables, or only for the first `most` tables if there are more. The array must not be
+        empty."""
         tables = self.table.get(key)
         if not isinstance(tables, list) or not tables or not all(isinstance(table, dict) for table in tables):
             self.mistake(key, f"expected one or more tables [[{key}]]")
@@ -301,8 +302,8 @@ class Game:
 
 @dataclass(frozen=True)
 class Command:
-    """How the competition starts a player: `{port}` stands for its port in the command and in the environment. Without a launcher it runs on this
-    computer. With 0, memory and processors have no limit."""
+    """How the competition starts a player: `{port}` stands for its port in the command and in the environment. Without a launcher, the player runs on
+    this computer. If `memory` or `processors` is 0, it has no limit."""
 
     words: tuple[str, ...] = read_by(Section.words, "the program, then its arguments", key="command")
     launcher: tuple[str, ...] = read_by(Section.words, RUNS_ELSEWHERE, False)
@@ -347,8 +348,8 @@ class Faults:
 
 @dataclass(frozen=True)
 class Form:
-    """The pairing: a round robin, a gauntlet of one player against all, a schedule whose lines have a game and its players, or rounds. After the
-    rounds of a Swiss competition, the `final` best players may play a knockout."""
+    """The pairing: a round robin, a gauntlet of one player against all others, a schedule whose lines have a game and its players, a Swiss
+    competition, or a knockout. After the rounds of a Swiss competition, the `final` best players may play a knockout."""
 
     kind: str
     rounds: int
@@ -410,7 +411,7 @@ def refuse_twice(sections: list[Section], key: str) -> None:
 
 
 def games_of(root: Section, clocks: dict[str, int | None]) -> tuple[Game, ...]:
-    """Returns the games. These are their clocks if they have none."""
+    """Returns the games. If a game lacks a clock, it gets the one in `clocks`."""
     found, sections = [], root.sections("games", MOST_GAMES)
     for section in sections:
         section.refuse_others(keys_of(Game))
@@ -502,7 +503,7 @@ def refuse_line(section: Section, line: Text, games: set[str], players: set[str]
 
 
 def root_of(data: bytes, mistakes: list[Mistake]) -> Section:
-    """Returns the table of a whole file. If it is not TOML, raises the reason."""
+    """Returns the table of a whole file. Raises `Mistaken` if the file is not TOML."""
     if len(data) > MOST_OF_COMPETITION:
         raise Mistaken([Mistake(1, "", f"the file has more than {MOST_OF_COMPETITION:,} bytes")])
     if data.startswith(MARK):
@@ -517,7 +518,7 @@ def root_of(data: bytes, mistakes: list[Mistake]) -> Section:
 
 
 def read_competition(data: bytes) -> Competition:
-    """Returns the competition of a file, or raises all its mistakes."""
+    """Returns the competition that a file describes. Raises `Mistaken` with all mistakes in the file."""
     mistakes: list[Mistake] = []
     root = root_of(data, mistakes)
     root.refuse_others(keys_of(Competition))

@@ -1,4 +1,5 @@
-"""Compares matches with the published descriptions of their games by `ggp-hold-against`, so you need not trust how the rules were grounded."""
+"""Uses `ggp-hold-against` to compare matches with the published descriptions of their games, so that you need not trust the grounding of the
+rules."""
 
 import pathlib
 from collections.abc import Sequence
@@ -21,7 +22,8 @@ REPORT = "report-{}.tar.gz"
 
 
 def description_of(plan: Plan, game: Game) -> tuple[bytes | None, str | None]:
-    """Returns the description of a game if it has variables and `plan` has read this version, and why it cannot be used, or None."""
+    """Returns the description of a game, or None if it has no variables or cannot be used, and why it cannot be used, or None. Only the version that
+    `plan` has read can be used."""
     file = plan.folder.description(game)
     try:
         sums, text = sums_of(plan.folder.description_sums()), file.read_bytes()

@@ -65,8 +65,8 @@ def held(path: pathlib.Path) -> Iterator[None]:
 
 
 def lock_place(folder: str | pathlib.Path) -> str:
-    """Returns how /proc/locks names a directory: by its device and its number. The device is that of its mount, because some file systems report
-    another one for their files."""
+    """Returns how /proc/locks names a directory: by its device and its inode number. The device is that of the mount, because some file systems
+    report another one for their files."""
     descriptor = os.open(folder, os.O_PATH | os.O_CLOEXEC)
     try:
         mount = pathlib.Path(f"/proc/self/fdinfo/{descriptor}").read_text("ascii").partition("mnt_id:")[2].split()[0]
@@ -95,14 +95,14 @@ def private(name: str, flags: int) -> int:
 
 @contextlib.contextmanager
 def written_whole(path: pathlib.Path, is_lasting: bool = True, is_private: bool = False) -> Iterator[BinaryIO]:
-    """Yields a file to write to. It has another name until it is complete, so that a file is never partly written. If it must last, it is on the disk
-    at the end; otherwise it may be lost if the computer crashes. After an error nothing is left."""
+    """Yields a file to write to. The file has a temporary name until it is complete, so a partly written file never has the final name. With
+    `is_lasting`, the file is on the disk at the end; otherwise it may be lost if the computer crashes. After an error, no file is left."""
     path = pathlib.Path(path)
-    # Two runs may write the same file, each under another name.
+    # Two runs may write the same file, each under a different temporary name.
     other = path.with_name(f"{UNFINISHED}{os.getpid()}-{path.name}")
     try:
         if is_private:
-            # Another user may have placed a link of this name.
+            # Another user may have created a link with this name.
             other.unlink(missing_ok=True)
         with open(other, "xb" if is_private else "wb", opener=private if is_private else None) as file:
             yield file
@@ -241,7 +241,7 @@ class Folder:
             return b"", False
         with opened_file(self.log(match)) as file:
             if is_cut := (size := os.fstat(file.fileno()).st_size) > most:
-                # The byte before the part is the end of a line, or the line is left out.
+                # If the byte before the part is not the end of a line, the part begins within a line, which is left out.
                 file.seek(size - most - 1)
                 file.readline(most)
             return file.read(most), is_cut

@@ -86,7 +86,7 @@ def run_game(asked: argparse.Namespace, referee: Referee) -> int:
 
 
 def load(path: pathlib.Path, text: bytes, referee: Referee, limit: int) -> Rules:
-    """Returns the rules of a description. Raises `Unchecked` if it could not be made ground for a reason that is not in the description."""
+    """Returns the rules of a description. Raises `Unchecked` if the grounding failed for a reason that is not in the description."""
     if len(text) <= MOST_BYTES and has_variables(text) and not shutil.which("gringo"):
         raise Unchecked(f"{path} can't be grounded: the grounder gringo is not installed")
     try:
@@ -103,7 +103,7 @@ def load(path: pathlib.Path, text: bytes, referee: Referee, limit: int) -> Rules
 
 
 def report_game(reporter: Reporter, asked: argparse.Namespace, referee: Referee, path: pathlib.Path, text: bytes) -> bool:
-    """Reports on a description. Returns whether it is not accepted, or something is wrong with its matches."""
+    """Reports on a description. Returns whether the description is refused, or something is wrong with its matches."""
     reporter.draw("the description")
     try:
         rules = load(path, text, referee, asked.instantiate)

@@ -1,8 +1,8 @@
 """The schedule of a competition that grows: after the first match you may add rounds, players, games and pairings, and order rematches. The planned
 matches stay as they are, and the new ones follow them.
 
-The schedule follows from all versions of competition.toml, and from the rematches. Each version adds the matches that it asks for and the version
-before it did not. If players are added, a game of more than two roles gets the matches in which one of them plays."""
+The schedule follows from all versions of competition.toml, and from the rematches. Each version adds the matches that it asks for and the previous
+version did not. If players are added, a game of more than two roles gets the matches in which a new player plays."""
 
 import itertools
 from collections import Counter
@@ -71,7 +71,8 @@ def refuse_unchanged(history: History, competition: Competition) -> None:
 
 
 def fixed(competition: Competition) -> dict[str, object]:
-    """Returns the values that must not change once matches were played, by key: how matches count and the table is computed."""
+    """Returns, by key, the values that must not change once matches have been played: they determine how matches count, and how the table is
+    computed."""
     form = competition.form
     found = {"form.kind": form.kind, "faults.replaced": competition.faults.replaced}
     found |= {key: getattr(competition, key) for key in ("name", "ids", "seeds", "strikes", "forfeit", "order", "anchor")}
@@ -90,7 +91,7 @@ def spelled(value: object) -> str:
 
 
 def refuse_changes(before: Competition, after: Competition) -> None:
-    """Refuses changes of what must not change once matches were played."""
+    """Refuses changes to what must not change once matches have been played."""
     now = fixed(after) | {"withdrawn_results": after.withdrawn_results}
     for key, old in fixed(before).items():
         if old != now.get(key, old):

@@ -17,18 +17,18 @@ TEMPLATE = """# docs/COMPETITION.md explains all keys.
 name = "{name}"
 start = {start}        # seconds for START, in which a player reads the rules
 play = {play}         # seconds for every other message
-strikes = 3       # a player is retired in a match after so many replaced moves in a row
+strikes = 3       # a player is retired in a match after this many replaced moves in a row
 forfeit = true    # a player that was retired in a match has lost it
 absent = "leave"  # "play": matches with silent players are played, too
 {more}
 [faults]
-replaced = 3      # a player with so many replaced moves in a match has lost it; turns with one legal move do not count
+replaced = 3      # a player with this many replaced moves in a match has lost it; turns with one legal move do not count
 
 [form]
 kind = "{kind}"
 {form}"""
 BY_ROUNDS = """pause = false     # true: `play` ends after each round
-absent_rounds = 0 # so many rounds without a move withdraw a player; 0: never
+absent_rounds = 0 # a player is withdrawn after this many rounds without a move; 0: never
 """
 GAME = """
 [[games]]
@@ -104,7 +104,7 @@ def words(text: str | None) -> list[str]:
 
 
 def write_first_file(asked: argparse.Namespace) -> pathlib.Path:
-    """Writes the file, and returns its path. Refuses what `plan` would refuse in it, except that players are missing."""
+    """Writes the file, and returns its path. Refuses everything that `plan` would refuse in it, except missing players."""
     folder = Folder(asked.folder)
     if folder.competition.exists():
         raise Refused(f"{folder.competition} already exists")

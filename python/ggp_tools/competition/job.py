@@ -1,8 +1,8 @@
-"""Runs a referee or a player on the computer on which a launcher has started this program. It needs only Python's standard library.
+"""Runs a referee or a player on the computer where a launcher has started this program. It needs only Python's standard library.
 
-It first writes the name of its node to standard error, and then a line every two seconds. It reads its task as a line of JSON from standard input, runs
-it, passes on the output, and reports the exit status at the end. If standard input is closed, or nothing comes for as many seconds as its argument says,
-it ends the task. A player gets a free port and its limits, and is ended with all processes that it has started."""
+It first writes the name of its node to standard error, and then a line every two seconds. It reads its task as a line of JSON from standard input,
+runs it, passes on the output, and reports the exit status at the end. If standard input is closed, or is silent for the number of seconds in the
+argument, the program ends the task. A player gets a free port and its limits, and is ended together with all processes that it has started."""
 
 import contextlib
 import ctypes
@@ -51,8 +51,8 @@ def bounded(memory: int) -> list[str]:
 
 
 def limit(memory: int, processors: int, number: int) -> None:
-    """Limits the memory of each process and the processors of all, for this process and those that it starts. Different players get different
-    processors, as far as there are enough."""
+    """Limits this process and those that it starts: the memory of each one, and the processors of all together. Different players get different
+    processors if there are enough."""
     if memory:
         resource.setrlimit(resource.RLIMIT_DATA, (memory, memory))
     allowed = sorted(os.sched_getaffinity(0))
@@ -131,8 +131,8 @@ class Job:
             self.is_at_line, self.said = not data or data.endswith(b"\n"), time.monotonic()
 
     def status(self) -> int:
-        """Returns the status of a process that has ended, and passes on the rest of its output. One read is enough for a pipe. This does not wait for the
-        process, so that no other process gets its number."""
+        """Returns the status of a process that has ended, and passes on the rest of its output. One read empties a pipe. The process is not reaped
+        yet, so that no other process gets its number."""
         os.set_blocking(self.pipe.fileno(), False)
         with contextlib.suppress(BlockingIOError, KeyError):
             self.pass_on()

@@ -1,4 +1,4 @@
-"""Jobs, which run a match on another computer, or a player there or here."""
+"""Jobs. A job runs a match on another computer, or a player on this computer or another one."""
 
 import asyncio
 import json
@@ -13,12 +13,12 @@ from ggp_tools.match_log import LONGEST_LINE
 from ggp_tools.printable import printable
 
 SILENT, LONG = "nothing was heard of it for {:.0f} s", "a line that it said has more than {:,} bytes"
-# The output of a job is read for at most this many seconds after its end, because a process that it has left may have the pipe open.
+# The output of a job is read for at most this many seconds after its end, because a process that it left behind may keep the pipe open.
 MOST_UNREAD = 2
 # A job has END_SECONDS to end its processes. It counts as lost if it sends nothing for LOST_SECONDS.
 END_SECONDS, LOST_SECONDS = 3, 10
-# A job ends its processes if this program sends nothing for this many seconds, so that they can begin elsewhere. On this computer it notices at once
-# that this program has ended, and a program that was stopped by Ctrl-Z may be silent.
+# A job ends its processes if this program sends nothing for this many seconds, so that the match can be started elsewhere. On this computer, a job
+# notices at once when this program has ended, and this program may be silent, for example while it is stopped by Ctrl-Z.
 SILENCE, HERE_SILENCE = 20, 10**9
 # The greatest length of the name of a node, and of a process with its address.
 MOST_OF_NAME = 300
@@ -40,7 +40,7 @@ class Job:
         self.is_up, self.process, self.is_remote = asyncio.Event(), None, False
         # The node, the process and address of a player, and the exit status, as the job reports them; and why it was given up.
         self.node, self.player, self.status, self.why = "", "", None, ""
-        # Whether it has its task, and whether it may go on with it after its process here has ended.
+        # Whether the job has its task, and whether the task may go on after the local process of the job has ended.
         self.has_begun, self.goes_on = False, False
 
     def start(self, launcher: Sequence[str], task: dict[str, object] | None = None) -> None:
@@ -71,11 +71,11 @@ class Job:
                 await asyncio.wait([ending, reading], return_when=asyncio.FIRST_COMPLETED)
             finally:
                 beating.cancel()
-                # It has time to end the processes on the node, because these may go on if it is killed.
+                # The job gets time to end the processes on the node, because these may go on if the job is killed.
                 self.process.stdin.close()
                 await asyncio.wait([ending], timeout=self.end_seconds)
                 self.goes_on = self.has_begun and not has_ended.is_set()
-                # Processes that it has left may have the pipes open.
+                # Processes that the job left behind may keep the pipes open.
                 await asyncio.wait([reading], timeout=MOST_UNREAD if has_ended.is_set() else 0)
                 ending.cancel()
                 if not reading.cancel():

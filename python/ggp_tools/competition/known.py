@@ -1,5 +1,5 @@
-"""A cache of facts about the files of a competition, by the checksums of everything that they follow from: a changed file has another checksum. It is
-in the user's cache directory, so a competition's directory that comes from elsewhere cannot bring false facts."""
+"""A cache of facts about the files of a competition. The keys are checksums of everything that the facts follow from, so facts about a changed file
+are not found. The cache is in the user's cache directory, so a competition's directory that comes from elsewhere cannot bring false facts."""
 
 import dataclasses
 import hashlib
@@ -15,7 +15,7 @@ from ggp_tools.descriptions.kept import cached, store
 
 PACKAGE = pathlib.Path(__file__).resolve().parents[1]
 CODE = {".py", ".html", ".css", ".js"}
-# The facts of competitions that were not used for the longest time are deleted, once there are more than this.
+# If there are facts about more competitions than this, those that have not been used for the longest time are deleted.
 MOST_KEPT = 20
 # The facts about a competition have at most this size, which suffices for about 30,000 matches.
 MOST_BYTES = 64 << 20
@@ -59,10 +59,10 @@ class Facts(pickle.Unpickler):
 
 
 class Known:
-    """The known facts about a competition's directory, of several kinds: values by keys, which are checksums."""
+    """The known facts about a competition's directory. Each kind of fact has values, by keys that are checksums."""
 
     def __init__(self, folder: pathlib.Path) -> None:
-        # Other code may find other facts, and can't read these.
+        # Another version of the code may find other facts, and can't read these.
         code = [file.read_bytes() for file in sorted(PACKAGE.rglob("*")) if file.suffix in CODE]
         self.name = sum_of_parts(os.fsencode(folder.absolute()), sys.version.encode(), *code)
         self.before, self.used = self.read(), {}

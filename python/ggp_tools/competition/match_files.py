@@ -26,15 +26,16 @@ if TYPE_CHECKING:
     from ggp_tools.competition.plan import Plan
     from ggp_tools.descriptions.loading import Rules
 
-# At most this many matches are checked together, and their files have at most this many bytes unless one match has more, since all are in memory.
+# At most this many matches are checked together. Their files have at most this many bytes in total, unless one match has more, since all of them are
+# in memory.
 TOGETHER, BYTES_TOGETHER = 250, 1 << 25
 # Only one batch with more bytes is checked at a time.
 LARGE = threading.Lock()
 
 
 class Check(NamedTuple):
-    """The check of a match's files: its result, or why it does not count. `fault` says what is wrong with its files, `misfit` how valid files differ
-    from the match."""
+    """The check of a match's files: the result of the match, or why the match does not count. `fault` says what is wrong with the files, `misfit` how
+    valid files differ from the match."""
 
     match: Match
     fault: str | None = None
@@ -47,7 +48,7 @@ def size_of(path: pathlib.Path) -> int:
 
 
 def batches(folder: Folder, matches: Iterable[Match]) -> Iterator[list[Match]]:
-    """Yields the matches in order, as many at a time as are checked together."""
+    """Yields the matches in order, in batches that are checked together."""
     batch, size = [], 0
     for match in matches:
         more = size_of(folder.record(match.id)) + size_of(folder.account(match.id))
@@ -97,7 +98,7 @@ def fault_of_files(record: bytes, account: bytes | None, rules: bytes) -> str | 
 
 
 def has_shape(record: object, roles: int) -> bool:
-    """Returns whether a JSON value has what a result needs from a record."""
+    """Returns whether a JSON value has those parts of a record that a result is made from."""
     if not isinstance(record, dict):
         return False
     goals, errors = record.get("goalValues"), record.get("errors")
@@ -109,7 +110,7 @@ def has_shape(record: object, roles: int) -> bool:
 
 
 def unverified_result(folder: Folder, competition: Competition, rules: Mapping[str, "Rules"], match: Match) -> Result | None:
-    """Returns the result of a match by its record, which is not checked yet, or None without a record."""
+    """Returns the result of a match from its record, which is not checked yet, or None if there is no record."""
     try:
         data = record_bytes(folder, match.id, rules[match.game].text)
         record = json.loads(without_states(data))
@@ -131,7 +132,7 @@ def referee_faults(plan: "Plan", referee: Referee, game: str, records: Sequence[
 
 
 def check_of(plan: "Plan", match: Match, data: bytes, fault: str | None) -> Check:
-    """Returns the check of a match whose record the referee accepts, unless it has this fault."""
+    """Returns the check of a match. If there is no fault, the referee has accepted the record."""
     if fault:
         return Check(match, fault)
     record = read_record(data)
@@ -141,8 +142,8 @@ def check_of(plan: "Plan", match: Match, data: bytes, fault: str | None) -> Chec
 
 
 def sum_of_rule(plan: "Plan", referee: Referee, game: str) -> bytes | None:
-    """Returns a checksum of everything but its files by which a match of a game is checked: the program, the rules and two numbers of
-    competition.toml. Returns None if a file cannot be read."""
+    """Returns a checksum of everything that the check of a match of a game depends on, except the files of the match: the program, the rules and two
+    numbers of competition.toml. Returns None if a file cannot be read."""
     competition = plan.competition
     try:
         sums = sum_of_file(referee.path), sum_of_file(plan.folder.rules_of(game))
@@ -198,7 +199,7 @@ def check_records(plan: "Plan", referee: Referee, known: Known | None = None) ->
 
 
 def unplanned_records(plan: "Plan") -> list[str]:
-    """Returns the files of records that belong to no match of the schedule."""
+    """Returns the record files that belong to no match of the schedule."""
     planned = {plan.folder.record(match.id).name for match in plan.matches}
     return sorted({file.name for file in plan.folder.records.glob("*.json")} - planned)
 
@@ -215,7 +216,8 @@ def files_of(folder: Folder, match: str) -> tuple[pathlib.Path, ...]:
 
 
 def set_aside(plan: "Plan", match: str) -> bool:
-    """Renames the files of a match that does not count. Files that were renamed before keep their names. Returns whether there are any."""
+    """Renames the files of a match that does not count. Files that were renamed before keep their names. Returns whether there were files to
+    rename."""
     files = files_of(plan.folder, match)
     existing = [file for file in files if file.exists()]
     ending = free_ending(files, "refused") if existing else ""
@@ -225,8 +227,9 @@ def set_aside(plan: "Plan", match: str) -> bool:
 
 
 def keep(folder: Folder, match: str, record: bytes, account: bytes, log: bytes, word: str | None = None) -> pathlib.Path:
-    """Writes the files of a match, the record last: a match that has a record has the other files too. With a word, the files get it as an ending
-    that is still free, and the match does not count. Returns the file of the record. If a file cannot be written, those before it are deleted."""
+    """Writes the files of a match, the record last: a match that has a record has the other files too. If a word is given, the names of the files get
+    an unused ending with this word, and the match does not count. Returns the file of the record. If a file cannot be written, those before it are
+    deleted."""
     files = files_of(folder, match)
     ending = free_ending(files, word) if word else ""
     named = [file.with_name(file.name + ending) for file in files]

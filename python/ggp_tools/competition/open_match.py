@@ -24,10 +24,10 @@ from ggp_tools.referee import Referee, Unchecked
 if TYPE_CHECKING:
     from ggp_tools.competition.playing import Playing
 
-# The referee ends INFO by itself after the first number of seconds. After the second one it has reported whether it was out of a resource.
+# The referee ends INFO by itself after WHOLE seconds. After SOON more, it has reported whether it was out of a resource.
 WHOLE, SOON = 10, 1
 FREE = ("available", "ready", "unknown")
-# At most this many bytes come from a launcher before a match, and this many are in the log for each message besides its texts.
+# A launcher may send at most this many bytes before a match, and the log has at most this many for each message, besides the texts of the message.
 MOST_BEFORE, MOST_OF_MESSAGE = 1 << 20, 1 << 10
 TOO_MUCH = "it sent more than {:,} bytes, more than any match has"
 # The players of a match that was lost with its node must answer ABORT within this many seconds.
@@ -36,7 +36,7 @@ EVENT = b'{"event":'
 
 
 def leave_players(directory: pathlib.Path) -> None:
-    """Deletes all files in the directory of an open match except the one that names the players: the match no longer seems to be open."""
+    """Deletes all files in the directory of an open match except the one that names the players, so that the match no longer appears to be open."""
     with contextlib.suppress(OSError):
         for file in directory.iterdir():
             if file.name != PLAYERS:
@@ -53,7 +53,7 @@ class OpenMatch:
         self.directory, self.log = self.plan.folder.open / match.id, self.plan.folder.room_log(match.id)
         self.places: list[str] = []
         self.stage, self.seconds = ASKING, 0.0
-        # When it took the slots of its players. All matches that were open when a player failed to answer asked it in one try.
+        # When the match took the slots of its players. All matches that were open when a player failed to answer count as one try.
         self.taken_at, self.has_slots = time.monotonic(), True
         self.result, self.why = None, None
         # Whether its players must be sent ABORT, whether a referee may still play it on a node, and whether the rules of its game are wrong.
@@ -89,14 +89,15 @@ class OpenMatch:
             self.playing.news.set()
 
     def close(self) -> None:
-        """Removes the directory, unless its players must still be sent ABORT: because it broke now, or during an earlier `play`."""
+        """Removes the directory, unless the players of the match must still be sent ABORT, because the match broke now or during an earlier
+        `play`."""
         if self.stage == ASKING and (self.directory / PLAYERS).exists():
             leave_players(self.directory)
         elif not self.is_broken:
             shutil.rmtree(self.directory, ignore_errors=True)
 
     async def can_be_played(self) -> bool:
-        """Returns whether the match is being played from now on: its players are free, or it had them already."""
+        """Begins the match if its players are free, unless it has begun already. Returns whether it has begun."""
         if self.stage == ASKING and await self.ask() and self.playing.may_begin(self.match):
             write_whole(self.directory / PLAYERS, "".join(f"{place}\n" for place in self.places).encode())
             self.enter(PLAYING)
@@ -186,7 +187,7 @@ class OpenMatch:
             self.add_event(Other("lost", {"match": self.match.id, "time": int(time.time() * 1_000), "reason": why}))
             self.reporter.line(f"lost {self.match.id} on {job.node or 'no node'}: {why}")
             if job.has_begun:
-                # The referee may go on at a node that cannot be reached any more.
+                # The referee may continue to run on a node that can no longer be reached.
                 await asyncio.sleep(SILENCE)
                 await self.abort()
             elif tries_left:
@@ -195,7 +196,7 @@ class OpenMatch:
         return None
 
     async def abort(self) -> None:
-        """Sends its players ABORT, because the job that played the match is lost."""
+        """Sends ABORT to the players, because the job that played the match is lost."""
         silent = await send_aborts(self.referee, {self.match.id: self.places}, ABORT_SECONDS)
         for player, place in zip(self.match.players, self.places):
             self.reporter.note(f"abort {self.match.id} {player}: {'no answer' if place in silent.get(self.match.id, ()) else 'answered'}")
@@ -208,7 +209,7 @@ class MatchJob(Job):
         super().__init__(self.take_output, self.take_line)
         self.match = open_match
         record, roles = longest_record(open_match.plan.rules[open_match.match.game].text), len(open_match.match.players)
-        # Each player is sent all moves, and a byte of an answer may take six.
+        # Each player is sent all moves, and a byte of an answer may take six bytes in the log.
         self.most = self.left = MOST_BEFORE + LONGEST_ACCOUNT + record + roles * (MOST_OF_MESSAGE * (MOST_TURNS + 2) + 6 * record)
         self.output, self.errors = tempfile.SpooledTemporaryFile(MOST_BEFORE, dir=open_match.directory), b""
 
@@ -264,8 +265,8 @@ class Checked(NamedTuple):
 
 
 def check_match(plan: Plan, referee: Referee, match: Match, output: bytes, log: bytes) -> Checked:
-    """Has the referee verify the record and replay the call log, which are its output, compares the match with its description, and only then writes
-    the files. If the referee gives no verdict, the files get the ending `.unchecked`."""
+    """Has the referee verify the record and replay the call log that it has output, compares the match with the description of its game, and only
+    then writes the files. If the referee gives no verdict, the files get the ending `.unchecked`."""
     line, end, account = output.partition(b"\n")
     record = line + end
     if fault := fault_of_files(record, account, plan.rules[match.game].text):

@@ -1,6 +1,7 @@
 """Packs the files of an archive, and unpacks an archive that may be hostile.
 
-Programs unpack unusual tar files differently. So only the output of `pack` is unpacked: each header is made again from its values, and compared."""
+Programs unpack unusual tar files differently. So `unpack` accepts only the output of `pack`: it makes each header again from its values, and compares
+the two."""
 
 import gzip
 import io
@@ -31,7 +32,7 @@ MOST_OF_FILES = {
 }
 # These files are first, because the matches determine which files there may be.
 FIRST = "competition.toml", "schedule.tsv"
-# The files of a match. All other files, of games and players too, are fewer.
+# The files of a match, and the greatest number of all other files, including those of games and players.
 OF_MATCH, OTHER_FILES = re.compile(r"[^/]*/(?:records/(.+)\.json|accounts/(.+)\.txt|logs/(.+)\.jsonl|pages/matches/(.+)\.html)"), 10_000
 # Higher levels take much longer, and save little.
 LEVEL = 6
@@ -53,7 +54,7 @@ def header(name: str, size: int) -> tarfile.TarInfo:
 
 
 def pack(file: BinaryIO, contents: Iterable[tuple[str, bytes]]) -> None:
-    """Writes an archive of these files, which is the same for the same files."""
+    """Writes an archive of these files. The same files always give the same archive."""
     size = 0
     with gzip.GzipFile(filename="", mode="wb", fileobj=file, mtime=0, compresslevel=LEVEL) as packed, tarfile.open(fileobj=packed, mode="w|") as archive:
         for name, data in contents:
@@ -78,7 +79,7 @@ def read_all(stream: BinaryIO, size: int) -> bytes:
 
 
 def members(stream: BinaryIO) -> Iterator[tuple[str, int]]:
-    """Yields the name and the size of each file in a tar file. The caller must read its bytes with `copy` before the next one."""
+    """Yields the name and the size of each file in a tar file. Before the next file, the caller must read the bytes of this one with `copy`."""
     while any(head := read_all(stream, tarfile.BLOCKSIZE)):
         if head[156:157] == tarfile.XHDTYPE:
             head += read_all(stream, 2 * tarfile.BLOCKSIZE)
@@ -119,7 +120,7 @@ def planned_ids(schedule: pathlib.Path) -> set[str | None]:
 
 
 def is_of_match(name: str, size: int, ids: set[str | None], folder: pathlib.Path) -> bool:
-    """Returns whether a file belongs to a match of the schedule. Refuses one that is empty, except for the log of a match that has a record."""
+    """Returns whether a file belongs to a match of the schedule. Refuses an empty file, except for the log of a match that has a record."""
     found = OF_MATCH.fullmatch(name)
     match = found and found[found.lastindex]
     if not match or match not in ids:

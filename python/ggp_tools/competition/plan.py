@@ -83,7 +83,7 @@ def read_file(path: Path, most: int = -1) -> bytes:
 
 
 def read_toml_file(path: Path) -> bytes:
-    """Returns the bytes of a competition.toml. Of one that is too long, this returns one byte too many."""
+    """Returns the bytes of a competition.toml, or one byte too many if the file is too long."""
     return read_file(path, MOST_OF_COMPETITION + 1)
 
 
@@ -95,17 +95,17 @@ def read_planned(path: Path) -> bytes:
 
 
 def not_planned(path: Path) -> Refused:
-    """Returns the error of a file that was changed after `plan` wrote it."""
+    """Returns the error for a file that was changed after `plan` wrote it."""
     return Refused(f"{path} is not what `ggp_competition plan` wrote", f"delete it, and {WRITES} again")
 
 
 def sums_text(sums: Mapping[str, str]) -> bytes:
-    """Returns checksums by file names in the format of `sha256sum`."""
+    """Returns a text with these checksums, by file name, in the format of `sha256sum`."""
     return "".join(f"{digest}  {name}\n" for name, digest in sorted(sums.items())).encode("utf-8")
 
 
 def read_sums(data: bytes) -> dict[str, str] | None:
-    """Returns the checksums in a file by file names, or None if it has a name twice or anything else."""
+    """Returns the checksums in a file by file name, or None if it has a name twice, or anything but checksums."""
     sums = {name.decode(errors="replace"): digest.decode() for digest, name in SUM_LINE.findall(data)}
     return sums if ONLY_SUMS.fullmatch(data) and len(sums) == data.count(b"\n") else None
 
@@ -124,7 +124,7 @@ def is_played(folder: Folder) -> bool:
 
 
 def is_begun(folder: Folder) -> bool:
-    """Returns whether matches were played. The plan of a competition only grows then, so its history shows this even if the records are elsewhere."""
+    """Returns whether matches have been played. The history of a plan begins only then, so it shows this even if the records are elsewhere."""
     return is_played(folder) or bool(history_files(folder))
 
 
@@ -140,7 +140,7 @@ def files_of_origin(plan: Plan) -> list[Path]:
 
 
 def refused_plan(folder: Folder, path: Path) -> Unplanned:
-    """Returns the error of a file that `plan` has written for another competition.toml."""
+    """Returns the error for a file that `plan` has written for another competition.toml."""
     advice = "matches were played, so put back what was changed, or add to it and plan again" if is_played(folder) else f"{WRITES} anew"
     return Unplanned(f"{path} does not agree with {folder.competition}", advice)
 
@@ -199,8 +199,8 @@ def loaded_games(folder: Folder, competition: Competition, referee: Referee) -> 
 
 
 def refuse_addresses(folder: Folder, competition: Competition) -> dict[str, str]:
-    """Refuses players that no match can reach or start, and two players at one address. Returns the current addresses of the others, because a name may
-    lead to another player later."""
+    """Refuses players that no match can reach or start, and two players at one address. Returns the current address of each player that has one,
+    because a host name may lead to another player later."""
     places = places_now(competition)
     if mistakes := [*mistakes_of_addresses(competition, places), *mistakes_of_programs(folder, competition)]:
         raise Refused(mistake_lines(folder.competition, mistakes))
@@ -208,7 +208,7 @@ def refuse_addresses(folder: Folder, competition: Competition) -> dict[str, str]
 
 
 def seeds_of(folder: Folder, competition: Competition) -> Path | None:
-    """Returns the file with the seeds from another competition, or None. Once matches were played, this is the copy of it."""
+    """Returns the file with the seeds from another competition, or None. Once matches have been played, this is the copy of it."""
     if not competition.seeds or is_begun(folder) and folder.seeds.exists():
         return folder.seeds if competition.seeds else None
     path = folder.path / competition.seeds
@@ -216,8 +216,8 @@ def seeds_of(folder: Folder, competition: Competition) -> Path | None:
 
 
 def make_plan(path: str, referee: Referee, is_preview: bool = False) -> Plan:
-    """Writes the rules and the schedule of the competition in a directory, and returns it. Writes nothing for a preview, if anything is wrong, if the
-    schedule of matches that were played would change and not only grow, or while matches are played."""
+    """Writes the rules and the schedule of the competition in a directory, and returns the plan. Writes nothing if this is a preview, if anything is
+    wrong, if matches have been played and the schedule would change rather than grow, or while matches are being played."""
     folder = Folder(path)
     text = read_toml_file(folder.competition)
     competition = competition_of_file(folder.competition, text)
@@ -252,8 +252,8 @@ def make_plan(path: str, referee: Referee, is_preview: bool = False) -> Plan:
 
 
 def history_of(folder: Folder, competition: Competition, rules: Mapping[str, Rules], key: bytes) -> tuple[History, dict[Path, bytes]]:
-    """Returns the history of a competition that was played, and the planned file if it must be stored. If competition.toml asks for other matches
-    now, the history ends with that file."""
+    """Returns the history of a competition that has been played, and the last planned version if it must be stored. If competition.toml now asks for
+    other matches, the history ends with that version."""
     history, before = replace(read_history(folder), key=key), planned_before(folder, competition)
     if before is None or shape(before) == shape(competition):
         return history, {}
@@ -266,7 +266,7 @@ def history_of(folder: Folder, competition: Competition, rules: Mapping[str, Rul
 
 
 def planned_before(folder: Folder, competition: Competition) -> Competition | None:
-    """Returns the competition that `plan` read last, or None. Since matches were played, this refuses changes of what must stay."""
+    """Returns the competition that `plan` read last, or None. Matches have been played, so this refuses changes to values that must stay the same."""
     if not folder.planned.exists():
         return None
     before = competition_of_file(folder.planned, read_toml_file(folder.planned), folder.seeds)
@@ -278,7 +278,7 @@ def planned_before(folder: Folder, competition: Competition) -> Competition | No
 
 
 def grows(folder: Folder, file: Path, old: bytes, new: bytes) -> bool:
-    """Returns whether a file of a plan may be replaced although matches were played, because nothing in it changes."""
+    """Returns whether a file of a plan may be replaced although matches have been played. All files except planned.toml may only grow."""
     if file in (folder.rule_sums(), folder.description_sums()):
         return (read_sums(old) or {"": ""}).items() <= (read_sums(new) or {}).items()
     if file == folder.schedule:
@@ -289,7 +289,7 @@ def grows(folder: Folder, file: Path, old: bytes, new: bytes) -> bool:
 
 
 def write_plan(folder: Folder, is_begun: bool, files: dict[Path, bytes]) -> None:
-    """Writes the files of a plan. Once matches were played, they may only grow; missing ones are written again."""
+    """Writes the files of a plan. Once matches have been played, they may only grow; missing ones are written again."""
     for file, data in files.items():
         if is_begun and file.exists() and not grows(folder, file, read_file(file), data):
             raise Refused(f"{file} would change, and matches were played", "put back what was changed, or use another directory")
@@ -306,8 +306,8 @@ def write_plan(folder: Folder, is_begun: bool, files: dict[Path, bytes]) -> None
 
 
 def faults_of_descriptions(plan: Plan, path_of: Callable[[Game], Path], advice: str = "") -> Iterator[str]:
-    """Yields each description from which the rules were not made. `path_of` returns the file of a game, and the advice is added if the file of their
-    checksums is missing."""
+    """Yields an error for each description that the rules were not made from. `path_of` returns the file of a game's description, and the advice is
+    added if the file of the checksums is missing."""
     path = plan.folder.description_sums()
     if not path.is_file():
         yield f"{path} is missing: it has the checksums of the descriptions{advice}"
@@ -343,7 +343,7 @@ def read_rules(folder: Folder, competition: Competition, referee: Referee) -> di
 
 
 def read_plan(path: str, referee: Referee) -> Plan:
-    """Returns the competition that was planned in a directory. Refuses one whose rules or schedule are not those of the plan."""
+    """Returns the competition that was planned in a directory. Refuses a competition whose rules or schedule are not those of the plan."""
     folder = Folder(path)
     folder.refuse_old_logs()
     text = read_toml_file(folder.competition)
@@ -372,7 +372,7 @@ def read_plan(path: str, referee: Referee) -> Plan:
 
 
 def refuse_wrong_records(plan: Plan, referee: Referee) -> None:
-    """Refuses records that do not count. If rounds were paired by them, the schedule differs from that of the plan."""
+    """Refuses records that do not count. If rounds were paired by their results, the schedule differs from that of the plan."""
     _, faults, misfits = check_records(plan, referee)
     if wrong := [f"{plan.folder.record(match)}: {why}" for match, why in {**faults, **misfits}.items()]:
         raise Refused("\n".join(wrong))
@@ -388,7 +388,7 @@ def refuse_lost_record(folder: Folder, growing: Growing, schedule: bytes) -> Non
 
 
 def refuse_lost_results(plan: Plan, results: Mapping[str, Result]) -> None:
-    """Refuses to go on if a later round was paired by a match whose record does not count."""
+    """Refuses to go on if a later round was paired by the result of a match whose record does not count."""
     last = len(plan.rounds)
     lost = [match.id for match in plan.matches if match.round < last and match.counts() and match.id not in results]
     if last and lost:
@@ -431,7 +431,7 @@ def round_words(plan: Plan) -> str:
 
 
 def replaceable_match(plan: Plan, referee: Referee, match_id: str) -> Match:
-    """Returns the match with this id. Refuses one that does not count, or by which a later round was paired."""
+    """Returns the match with this id. Refuses a match that does not count, or whose result was used to pair a later round."""
     match = next((planned for planned in plan.matches if planned.id == match_id), None)
     if match is None:
         raise Refused(f"{plan.folder.schedule} has no match {match_id}")
@@ -458,7 +458,7 @@ def order_again(path: str, referee: Referee, match_id: str, reason: str) -> Matc
         match = replaceable_match(plan, referee, match_id)
         history = replace(plan.history, again=(*plan.history.again, Again(plan.next_id(), match.id, reason)))
         schedule = schedule_of(plan.folder, plan.competition, plan.rules, history, len(plan.matches) + 1)
-        # The schedule is last: if this is interrupted before it, `plan` writes it.
+        # The schedule is written last: if this is interrupted before that, `plan` writes it.
         write_whole(plan.folder.again, again_text(history.again))
         write_whole(plan.folder.schedule, schedule_text(schedule.matches))
     return schedule.matches[-1]

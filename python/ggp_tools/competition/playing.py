@@ -30,7 +30,7 @@ from ggp_tools.reporting import REDRAWN, Reporter
 # The players of matches that are ended must answer ABORT within this many seconds.
 ABORT_SECONDS = 3
 NOT_BEGUN, ENDED = "not begun", "broken off"
-# How many interrupts a signal counts as: after the first no more matches begin, the second ends the open ones.
+# How many interrupts a signal counts as: after the first one no more matches begin, and the second one ends the open matches.
 INTERRUPTS = {signal.SIGINT: 1, signal.SIGTERM: 2, signal.SIGHUP: 2}
 # An upper bound for the bytes of the names and addresses of a match's players.
 MOST_OF_PLACES = 1 << 20
@@ -46,7 +46,7 @@ class Playing:
         # `news` is set when matches may begin that could not before, or after an interrupt; `ends` when there is another result.
         self.news, self.ends = asyncio.Event(), asyncio.Event()
         self.players = StartedPlayers(plan.folder, plan.competition, referee, reporter)
-        # By match id: the results, and why there is none. By game: why its matches do not begin any more.
+        # By match id: the results, and the reasons why matches have none. By game: why no more of its matches begin.
         self.results, self.left, self.stopped = {}, {}, {}
         # By game: how many seconds the finished matches took, from their INFO.
         self.took: dict[str, list[float]] = {}
@@ -62,7 +62,7 @@ class Playing:
         return not self.interrupts and not self.is_full and not (match and match.game in self.stopped)
 
     def begin(self) -> None:
-        """Opens matches, as long as fewer than allowed have slots and one can begin."""
+        """Opens matches, as long as fewer matches than allowed have slots, and another one can begin."""
         self.searched_at, playing = time.monotonic(), sum(open_match.has_slots for open_match in self.open)
         while self.may_begin() and playing < self.at_once and (match := self.slots.next_match(self.waiting, self.searched_at)):
             open_match = OpenMatch(self, match)
@@ -114,7 +114,7 @@ class Playing:
         self.reporter.line(f"stopped {self.stopped[match.game]}; {counted(len(others), 'match')} of it {'does' if len(others) == 1 else 'do'} not begin")
 
     async def go(self) -> None:
-        """Plays until no match is open, and none waits or may begin."""
+        """Plays until no match is open, and either none waits or no more may begin."""
         async with asyncio.TaskGroup() as self.group:
             shown = [self.group.create_task(self.show_progress()), self.group.create_task(self.show_results())]
             while self.is_going_on():
@@ -152,7 +152,7 @@ class Playing:
             await asyncio.sleep(REDRAWN)
 
     async def show_results(self) -> None:
-        """Calls `watch` when there are more results, in a thread, because matches go on meanwhile."""
+        """Calls `watch` when there are new results, in a thread, because matches go on meanwhile."""
         while self.watch:
             await self.ends.wait()
             self.ends.clear()
@@ -184,8 +184,8 @@ class Playing:
         await self.abort(places, ABORT_SECONDS, going_on)
 
     async def abort(self, places: dict[str, list[str]], seconds: float | None = None, going_on: Container[str] = ()) -> None:
-        """Sends the players of these matches ABORT, within a number of seconds if it is given. If a player does not answer, or the match may go on at
-        a node, the directory of the match stays, so that the next `play` sends it again."""
+        """Sends ABORT to the players of these matches, within `seconds` if that is given. If a player does not answer, or a match may go on at a
+        node, the directory of the match stays, so that the next `play` sends ABORT again."""
         folder = self.plan.folder
         for match in places:
             leave_players(folder.open / match)
@@ -220,9 +220,9 @@ class Playing:
 def seconds_left(
     waiting: Iterable[Match], open_matches: Iterable[tuple[Match, float]], took: Mapping[str, list[float]], concurrent: Mapping[str, int], at_once: int
 ) -> float | None:
-    """Estimates how many seconds the remaining matches take, or returns None before the first one has ended. They take at least as long as those of the
-    player with the most to play, and as all of them if as many as allowed are played at the same time. `open_matches` has for each match how long it
-    is open. A game without finished matches counts like the others."""
+    """Estimates how many seconds the remaining matches take, or returns None before the first one has ended. This is the greatest of three times: of
+    the longest open match, of the player with the most left to play, and of all matches if as many as allowed are played at the same time.
+    `open_matches` has for each match how long it has been open. A game without finished matches is estimated by the mean of the others."""
     times = [seconds for game in took.values() for seconds in game]
     if not times:
         return None
@@ -244,7 +244,8 @@ def seconds_left(
 
 
 def open_directories(plan: Plan) -> dict[pathlib.Path, list[str]]:
-    """Returns the directories of matches that were open when an earlier `play` was killed, also by an earlier plan, with the players that they name."""
+    """Returns the directories of matches that were open when an earlier `play` was killed, including matches of an earlier plan, with the players
+    that the directories name."""
     ids, directories = {match.id for match in plan.matches}, {}
     for directory in sorted(plan.folder.open.iterdir()):
         if directory.is_symlink() or not directory.is_dir():
@@ -272,8 +273,8 @@ def abort_open_matches(playing: Playing, directories: dict[pathlib.Path, list[st
 
 
 def set_all_aside(playing: Playing, faults: dict[str, str]) -> None:
-    """Renames the files that do not count, because of these faults of records or without a record, and reports what happens to each match. A match that
-    another one replaces is not played any more."""
+    """Renames the files that do not count, because the record has one of these faults or is missing, and reports what happens to each match. A match
+    that another one replaces is not played any more."""
     for match in playing.plan.matches:
         if match.id not in playing.results and set_aside(playing.plan, match.id):
             fault = faults.get(match.id)
@@ -283,7 +284,7 @@ def set_all_aside(playing: Playing, faults: dict[str, str]) -> None:
 
 
 def prepare(playing: Playing) -> None:
-    """Checks the existing files, sends ABORT for matches that were open, and lets the other matches wait."""
+    """Checks the existing files, sends ABORT for matches that were open, and queues the matches that are not played yet."""
     plan, folder, reporter = playing.plan, playing.plan.folder, playing.reporter
     folder.must_be_text()
     playing.players.addresses = refuse_addresses(folder, plan.competition)
@@ -313,7 +314,7 @@ def prepare(playing: Playing) -> None:
 
 
 def play(playing: Playing) -> dict[str, str]:
-    """Plays all matches. The caller holds the lock of the directory. Returns for each match without a lawful record the reason."""
+    """Plays all matches. The caller holds the lock of the directory. Returns the reason for each match without a lawful record."""
     # A shell usually lets a process open fewer files than many open matches need.
     allow_files()
     if sys.version_info < (3, 12):

@@ -54,7 +54,7 @@ def sampled(values: list[float]) -> list[tuple[int, float]]:
 
 
 def goals_plot(goals: list[int]) -> str:
-    """Plots the goals of matches in their order as dots, and the mean until then as a line. The text is empty for fewer than two matches."""
+    """Plots the goals of matches in their order as dots, and the running mean as a line. The text is empty for fewer than two matches."""
     if len(goals) < 2:
         return ""
     means = [total / count for count, total in enumerate(itertools.accumulate(goals), 1)]
@@ -77,7 +77,7 @@ def spelt_time(milliseconds: int) -> str:
 
 
 def times_plot(counts: list[int]) -> str:
-    """Plots how many response times fall into each bar. The text is empty without any."""
+    """Plots how many response times fall into each bar. The text is empty if there are none."""
     if not any(counts):
         return ""
     most, wide = max(counts), (WIDTH - 20) / BARS

@@ -1,11 +1,11 @@
 """Ratings by the model of Bradley and Terry: a player with strength s beats one with strength t with the chance s / (s + t).
 
-The strengths are those with which the results are most likely. A draw counts as half a win for each. The strengths are unique, up to a factor, if
-each part of the players has won something against the others (Ford, "Solution of a ranking problem from binary comparisons", The American
-Mathematical Monthly 64, 1957). So each such group of players is rated separately, and a player without a group has no rating. A rating is 400 times
-the decimal logarithm of the strength. Its mean in a group is 0, unless the group has anchors. The intervals of 95% follow from the observed
-information: the negative second derivatives of the logarithm of the likelihood, inverted for ratings whose sum is 0. In tests with eight players of
-known strengths, 763 of 800 intervals contain the strength."""
+The strengths are those that make the results most likely. A draw counts as half a win for each player. The strengths are unique, up to a factor, if
+every subset of the players has points against the other players (Ford, "Solution of a ranking problem from binary comparisons", The American
+Mathematical Monthly 64, 1957). So the players are divided into the largest groups in which this holds. Each group is rated separately, and a player
+without a group has no rating. A rating is 400 times the decimal logarithm of the strength. Its mean in a group is 0, unless the group has anchors.
+The 95% intervals follow from the observed information: the negative second derivatives of the logarithm of the likelihood, inverted for ratings whose
+sum is 0. In tests with eight players of known strengths, 763 of 800 intervals contain the strength."""
 
 import math
 from collections.abc import Mapping, Sequence
@@ -21,8 +21,8 @@ MOST_STEPS, CLOSE = 100, 1e-8
 
 @dataclass(frozen=True)
 class Rating:
-    """A player's rating, half the length of its interval of 95%, and the group in which ratings can be compared. Without a group a player has no
-    rating. A group has no ratings if its results limit the strengths so little that floating-point numbers cannot find them."""
+    """A player's rating, half the length of its 95% interval, and the group in which ratings can be compared. Without a group a player has no rating.
+    A group has no ratings if its results limit the strengths so little that they cannot be computed with floating-point numbers."""
 
     rating: float | None
     half: float | None
@@ -30,8 +30,8 @@ class Rating:
 
 
 def groups(points: numpy.ndarray) -> list[list[int]]:
-    """Returns the largest groups of players in which each leads to each other by a chain of players with points against the next one, in the order of
-    their first players."""
+    """Returns the largest groups of players in which a chain leads from each player to each other one, in the order of their first players. In a
+    chain, each player has points against the next one."""
     leads = (points > 0) | numpy.eye(len(points), dtype=bool)
     # Each step doubles the length of the chains.
     for _ in range(len(points).bit_length()):
@@ -43,8 +43,8 @@ def groups(points: numpy.ndarray) -> list[list[int]]:
 def likeliest(points: numpy.ndarray) -> list[tuple[float, float]] | None:
     """Returns the ratings of a group, each with half its interval, or None if they cannot be found.
 
-    This is Newton's method. A step that would change a difference of two players that have met by d is shortened to log(1 + d) / d of its length.
-    Then the likelihood grows with each step, because no second derivative grows by more than the factor 1 + d."""
+    This is Newton's method. A step that would change the difference between two players that have met by up to d is shortened to log(1 + d) / d of
+    its length. Then the likelihood grows with each step, because no second derivative grows by more than the factor 1 + d."""
     met, won, logs = points + points.T, points.sum(axis=1), numpy.zeros(len(points))
     for _ in range(MOST_STEPS):
         chances = 1 / (1 + numpy.exp(numpy.clip(logs - logs[:, None], -700, 700)))

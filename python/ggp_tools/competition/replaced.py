@@ -28,7 +28,7 @@ def newest(found: Iterable[Replaced]) -> list[Replaced]:
 
 
 def replaced_moves(match: Match, turns: Iterable[tuple[Texts, Texts]], moments: Mapping[int, float], otherwise: float) -> list[Replaced]:
-    """Returns all replaced moves of a match, by the moves and the errors of its turns. A turn whose time is unknown gets another time."""
+    """Returns all replaced moves of a match, from the moves and the errors of its turns. `otherwise` is the time of a turn whose time is unknown."""
     return [
         Replaced(match, match.players[role], turn, error, moves[role], moments.get(turn, otherwise))
         for turn, (moves, errors) in enumerate(turns, 1)

@@ -1,4 +1,4 @@
-"""The result of a match by its record, with forfeits by the rules of the competition, and its row in matches.jsonl."""
+"""The result of a match, from its record and the forfeit rules of the competition, and its row in matches.jsonl."""
 
 import json
 import threading
@@ -28,8 +28,8 @@ GAMES = threading.Lock()
 
 @dataclass(frozen=True)
 class Retirement:
-    """Why a role was retired or has forfeited its match: the kinds of its errors, the last turn with one, and the first such turn if they are not in
-    a row."""
+    """Why a role was retired or has forfeited its match: the kinds of its errors, the last turn with one, and the first such turn if these turns are
+    not consecutive."""
 
     errors: tuple[str, ...]
     turn: int
@@ -70,8 +70,9 @@ class Result:
         return {role: why for whys in (self.lapses, retired) for role, why in enumerate(whys) if why}
 
     def counted(self) -> tuple[int | None, ...]:
-        """Returns the goals that count, by role, each None without goals. A player that forfeits gets 0. A single opponent gets the full goal,
-        because moves that no player chose have led to its own goal. Several opponents keep their goals, or share the full goal without any."""
+        """Returns the goals that count, by role, each None if the match has no goals. A player that forfeits gets 0. A single opponent gets the full
+        goal, because moves that no player chose have led to its own goal. Several opponents keep their goals, or share the full goal if there are
+        none."""
         lost, roles = self.forfeits(), range(len(self.retirements))
         if not lost:
             return self.goals or (None,) * len(roles)
@@ -151,7 +152,7 @@ def kind_of(error: str) -> str:
 
 
 def retirement_of(record: dict, role: int) -> Retirement | None:
-    """Returns why a role was retired: it had replaced moves in `strikes` turns in a row. None if it was not."""
+    """Returns why a role was retired, or None if it was not. A role is retired if its moves were replaced in `strikes` turns in a row."""
     row: list[str] = []
     for number, turn in enumerate(record["errors"] if record["strikes"] else (), 1):
         if not turn[role]:
@@ -164,7 +165,7 @@ def retirement_of(record: dict, role: int) -> Retirement | None:
 
 
 def result_of(record: dict, match: Match, has_forfeits: bool = False, lapses: tuple[Retirement | None, ...] = ()) -> Result:
-    """Returns the result of a match by its record. `has_forfeits` and `lapses` are explained at the class."""
+    """Returns the result of a match from its record. The class explains `has_forfeits` and `lapses`."""
     roles = range(len(match.players))
     errors = tuple(Counter(kind_of(turn[role]) for turn in record["errors"] if turn[role]) for role in roles)
     retirements = tuple(retirement_of(record, role) for role in roles)
@@ -173,8 +174,8 @@ def result_of(record: dict, match: Match, has_forfeits: bool = False, lapses: tu
 
 
 def lapse_of(record: dict, data: bytes, rules: "Rules", role: int, most: int) -> Retirement | None:
-    """Returns why a role has lost a match by this many replaced moves, or None. A turn in which the ground game has one legal move for it does not
-    count."""
+    """Returns why a role has lost a match by this many replaced moves, or None. A turn in which the role has only one legal move, by the ground
+    rules, does not count."""
     errors, lapses = [turn[role] for turn in record["errors"]], []
     if len(errors) - errors.count("") < most:
         return None
@@ -189,7 +190,7 @@ def lapse_of(record: dict, data: bytes, rules: "Rules", role: int, most: int) ->
 
 
 def counted_result(record: dict, data: bytes, match: Match, competition: Competition, rules: "Rules") -> Result:
-    """Returns the result of a match by its record, which was read from these bytes, and by the rules of its competition."""
+    """Returns the result of a match from its record, which was read from these bytes, under the rules of its competition."""
     most, roles = competition.faults.replaced, range(len(match.players))
     lapses = tuple(lapse_of(record, data, rules, role, most) for role in roles) if most else ()
     return result_of(record, match, competition.forfeit, lapses)

@@ -1,7 +1,7 @@
 """The rounds of a Swiss competition and of a knockout: pairs the players of a round by the results of the earlier rounds.
 
-A pairing of two players has a match in each game for each order of the roles. A Swiss competition orders the players by points, then by Buchholz's
-number (the points of all their opponents), then by seed, which is the order of competition.toml. From the top down, each player meets the next one
+A pairing of two players has a match in each game for each order of the roles. A Swiss competition orders the players by points, then by Buchholz
+score (the points of all their opponents), then by seed, which is the order of competition.toml. From the top down, each player meets the next one
 that it has met least often. Then, from the bottom up, a pair that has met before swaps a player with the nearest pair above or else below, if that
 makes two pairs that have not met. If the number of players is odd, the last player with the fewest byes has a bye, which counts as if it had won all
 matches of a pairing. In a knockout the winner of each pairing advances: the player with more points, then with more goals, then with the better seed.
@@ -97,7 +97,7 @@ def swiss_rounds(competition: Competition) -> int:
 
 
 def matches_to_come(competition: Competition, rounds: Sequence[Round]) -> int:
-    """Returns how many matches the rounds have that are not planned yet, with the current players."""
+    """Returns how many matches there are in the rounds that are not planned yet, with the current players."""
     swiss = swiss_rounds(competition) - len(rounds)
     if swiss < 0 or competition.form.kind == KNOCKOUT:
         # Each pairing eliminates one player.
@@ -135,7 +135,8 @@ def paired(order: Sequence[str], met: Counter[frozenset[str]]) -> list[tuple[str
 
 
 def exchange(pairs: list[tuple[str, str]], at: int, met: Counter[frozenset[str]]) -> None:
-    """Swaps a player of a pair with the nearest pair above, or else below, that makes two pairs that have not met. Without one the pair stays."""
+    """Swaps a player of a pair with the nearest pair above, or else below, that makes two pairs that have not met. If there is no such pair, this
+    pair stays."""
     first, other = pairs[at]
     for beside in (*range(at - 1, -1, -1), *range(at + 1, len(pairs))):
         high, low = pairs[beside]
@@ -165,7 +166,7 @@ def bracket(count: int) -> list[int]:
 
 
 def winner(pair: tuple[str, str], results: Collection[Result], scores: Scores, withdrawn: Mapping[str, str], seeds: Sequence[str]) -> str | None:
-    """Returns the winner of a pairing that is over, or None if both players have withdrawn before all its matches were played. `scores` are empty."""
+    """Returns the winner of a pairing that is over, or None if both players withdrew before all its matches were played. `scores` must be empty."""
     left = [name for name in pair if name not in withdrawn]
     for result in results:
         scores.count_result(result)
@@ -175,7 +176,7 @@ def winner(pair: tuple[str, str], results: Collection[Result], scores: Scores, w
 
 
 def knockout_round(size: int, names: Sequence[str], before: Sequence[Round], winners: Collection[str | None], withdrawn: Mapping[str, str]) -> Round:
-    """Returns the next round of a knockout of this size and these seeds, whose earlier rounds are over, by the winners of the last one."""
+    """Returns the next round of a knockout of this size, with these seeds. The earlier rounds are over, and `winners` are those of the last one."""
     places: list[str | None] = [names[seed] if seed < len(names) else None for seed in bracket(size)]
     for going_on in [*(found.players() for found in before[1:]), {*winners, *before[-1].byes}] if before else ():
         places = [next((name for name in pair if name and name in going_on), None) for pair in zip(places[::2], places[1::2])]
@@ -278,7 +279,8 @@ def meetings(competition: Competition, found: Round) -> list[tuple[str, tuple[st
 
 
 def scores_of(competition: Competition, rounds: Sequence[Round], results: Iterable[Result], withdrawn: Mapping[str, str] | None = None) -> Scores:
-    """Returns the scores of these rounds, by the results that count if these players have withdrawn; without them, those that the rounds name."""
+    """Returns the scores of these rounds, from the results that count if these players have withdrawn. By default, these are the players that
+    competition.toml or the rounds name as withdrawn."""
     withdrawn = withdrawn_by(competition, rounds) if withdrawn is None else withdrawn
     scores, counted = Scores(competition), [result for result in results if not competition.is_void(result.match.players, withdrawn)]
     of_meeting = by_meeting(counted)

@@ -134,8 +134,8 @@ def refuse_too_many(competition: Competition, count: int) -> None:
 
 
 def id_of(competition: Competition, number: int, width: int, key: bytes = b"") -> str:
-    """Returns the id of the match with a number, counted from 1. The number has at least as many digits as those of the matches that were planned first.
-    Without the key, nobody can guess an id with a key."""
+    """Returns the id of the match with a number, counted from 1. The number has at least as many digits as those of the matches that were planned
+    first. An id with a key cannot be guessed without the key."""
     counted = f"{competition.name}-{number:0{max(3, width)}}"
     digest = base64.b32encode(hmac.digest(key, counted.encode("ascii"), "sha256")).decode("ascii").lower() if key else ""
     return f"{counted}-{digest[:SECRET_LETTERS]}" if key else counted

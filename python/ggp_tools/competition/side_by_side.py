@@ -12,14 +12,14 @@ from collections.abc import Callable, Iterator, Sequence
 from ggp_tools.referee import Unchecked
 
 PROCESSORS = min(8, len(os.sched_getaffinity(0)))
-# From this many calls on, several processes share them, each this many at a time.
+# If there are at least this many calls, several worker processes share them, and each takes this many at a time.
 MANY, CHUNK = 100, 16
-# In such a process: the function and the arguments of each call, which it inherits.
+# In a worker process: the function and the arguments of each call, which it inherits.
 WORK: list[typing.Any] = []
 
 
 def begin(function: Callable[..., object], calls: Sequence[tuple]) -> None:
-    """Prepares such a process. It ignores interrupts, which the process that waits for it handles."""
+    """Prepares a worker process. It ignores interrupts, because its parent handles them."""
     signal.signal(signal.SIGINT, signal.SIG_IGN)
     WORK[:] = function, calls
 
@@ -30,8 +30,8 @@ def called(at: int) -> object:
 
 
 def made_side_by_side(function: Callable[..., object], calls: Sequence[tuple]) -> Iterator[typing.Any]:
-    """Yields what a function returns for each of these arguments, in order. It uses several processes if there are many calls, unless this process
-    has other threads, with which it cannot fork."""
+    """Yields what a function returns for each of these arguments, in order. Several processes make the calls if there are many, unless this process
+    has other threads: then it cannot fork safely."""
     if len(calls) < MANY or PROCESSORS == 1 or threading.active_count() > 1:
         yield from itertools.starmap(function, calls)
         return

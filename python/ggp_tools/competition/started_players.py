@@ -22,7 +22,7 @@ from ggp_tools.reporting import Reporter
 HERE, NOWHERE = "127.0.0.1", "127.0.0.1:1"
 # A player must end within this many seconds.
 END_SECONDS = 15
-# The first pause between two INFO to a player that is starting. Each pause is twice the one before, up to a second.
+# The first pause between two INFO messages to a player that is starting. Each pause is twice as long as the one before, up to a second.
 FIRST_PAUSE, LONGEST_PAUSE = 0.05, 1.0
 # A larger log is renamed, and replaces the one that was renamed before.
 MOST_BYTES = 1 << 20
@@ -57,7 +57,7 @@ class PlayerLog:
             if self.size > MOST_BYTES:
                 os.replace(self.path, f"{self.path}.1")
                 self.begin = 0
-            # Like the directory of open matches, only its owner can read it.
+            # Only the owner can read the log, as with the directory of open matches.
             with open(self.path, "ab", buffering=0) if self.path.exists() else new_file(self.path) as file:
                 file.write(data)
                 self.size = file.tell()
@@ -150,14 +150,14 @@ class StartedPlayer:
         return f"it did not answer INFO within {command.start_seconds} s; it may need more `start_seconds`{more}"
 
     async def watch(self, job: Job) -> None:
-        """If the player ends by itself, this reports it for each match that it is playing, or once between matches."""
+        """Waits until the player ends by itself, and reports that for each match that it is playing, or once between matches."""
         await asyncio.wait([job.running])
         words, last = self.with_restart(words_of_end(job)), "".join(f": {line}" for line in self.log.last_lines()[-1:])
         for match in [f"{match} " for match in sorted(self.matches)] or [""]:
             self.reporter.line(f"died {match}{self.name}: {words}{last}")
 
     def with_restart(self, why: str) -> str:
-        """Adds to the reason why the player does not run that it is not started again, if this is so."""
+        """Returns the reason why the player does not run. If the player is never restarted, this adds that to the reason."""
         if self.command.restart == NEVER:
             why = self.over = f"{why}, and it is not started again because of `restart = \"never\"`"
         return why
@@ -181,7 +181,7 @@ class StartedPlayers:
 
     def __init__(self, folder: Folder, competition: Competition, referee: Referee, reporter: Reporter) -> None:
         self.competition = competition
-        # The addresses of the other players that were looked up, which are the same in all matches.
+        # The addresses that were looked up for the other players. They are the same in all matches.
         self.addresses: dict[str, str] = {}
         players = [player for player in competition.players if player.command]
         self.players = {player.name: StartedPlayer(folder, player, number, referee, reporter) for number, player in enumerate(players)}

@@ -1,4 +1,4 @@
-"""Starts `ggp_competition`. Ctrl-C before that ends it silently."""
+"""Starts `ggp_competition`. While the modules are loaded, Ctrl-C ends it silently."""
 
 import signal
 

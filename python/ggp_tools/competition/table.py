@@ -1,8 +1,8 @@
 """The table of a competition: the results of each player in each game and in all of them, the crosstable, and the ratings.
 
-It follows from the records. A player has won a match if its goal is above all others, lost it if another one is above its goal, and drawn otherwise. A
-match of one role, or without goals, is none of these. A player that has forfeited a match has lost it against each player that has not, whatever the
-goals are. Its goal counts as 0. A single opponent gets 100; several keep their goals, or share 100 if there are none."""
+It follows from the records. A player has won a match if its goal is higher than all others, lost it if another goal is higher, and drawn it
+otherwise. A match of one role, or without goals, is neither won, lost nor drawn. A player that has forfeited a match has lost it against each player
+that has not, whatever the goals are. Its goal counts as 0. A single opponent gets 100; several keep their goals, or share 100 if there are none."""
 
 import itertools
 import typing
@@ -57,8 +57,8 @@ class Line:
 
     def order(self, by: str) -> tuple[float, ...]:
         """Returns a key that orders lines: by points if the order is by points, then by the printed mean goal (0 without goals), by wins, and by
-        fewer losses. A knockout is ordered by rounds won; a Swiss competition by points and Buchholz's number, with a final first by rounds won in
-        it."""
+        fewer losses. A knockout is ordered by rounds won; a Swiss competition by points and Buchholz score, or, if it has a final, first by the
+        rounds won in the final."""
         if by in (SWISS, FINAL):
             final = -1 if self.rounds_won is None else self.rounds_won
             return *((-final,) if by == FINAL else ()), -self.points(), -(self.buchholz or 0)
@@ -120,7 +120,8 @@ def count_player(line: Line, result: Result, role: int) -> None:
 
 
 def count_pairs(table: Table, result: Result) -> None:
-    """Counts that each two players of a match have met, unless both forfeited it. The higher goal wins, and equal goals are half a win for each."""
+    """Counts that the two players of each pair in a match have met, unless both forfeited it. The higher goal wins, and equal goals are half a win
+    for each."""
     worths = result.worths() or ()
     for (player, worth), (other, beside) in itertools.permutations(zip(result.match.players, worths), 2):
         if worth != beside or worth >= 0:

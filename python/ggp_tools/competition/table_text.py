@@ -1,4 +1,4 @@
-"""The table as text, as CSV and as JSON, also that of several competitions."""
+"""The table of one or several competitions as text, as CSV and as JSON."""
 
 import csv
 import io
@@ -26,7 +26,7 @@ METHOD = (
 
 
 def forfeit_rule(competition: Competition) -> str:
-    """Explains how a player forfeits a match, and what counts then. The text is empty if nothing is a forfeit."""
+    """Explains how a player forfeits a match, and what counts then. The text is empty if no player can forfeit a match."""
     most = competition.faults.replaced
     whys = ["it was retired"] * competition.forfeit + [f"{most:,} or more of its moves were replaced (forced moves do not count)"] * bool(most)
     counts = (
@@ -68,7 +68,7 @@ def fields(line: Line) -> dict[str, object]:
 
 
 def crosstable(table: Table) -> list[dict[str, object]]:
-    """Returns how often each two players met, and the points of the first, by the heads of the columns of a file."""
+    """Returns how often the two players of each pair met, and the points of the first, by the heads of the columns of a file."""
     return [
         {"player": player, "opponent": opponent, "matches": met, "points": table.points[player, opponent]}
         for (player, opponent), met in sorted(table.met.items())
@@ -211,8 +211,8 @@ def table_files(plan: Plan, tables: list[Table]) -> dict[str, bytes]:
 
 
 def joined(plans: Sequence[Plan]) -> Plan:
-    """Returns a plan with the players, games and matches of several plans, for one table. Refuses two of the same name, and a game that does not have
-    the same rules in all of them. Each match counts by the rules of its own competition, and rounds do not count."""
+    """Returns a plan with the players, games and matches of several plans, for one table. Refuses two plans with the same name, and a game that does
+    not have the same rules in all of them. Each match counts by the rules of its competition, and rounds do not count."""
     if len(plans) == 1:
         return plans[0]
     first, competitions, rules = plans[0].competition, [plan.competition for plan in plans], {}

@@ -9,7 +9,7 @@ from collections.abc import Iterator
 Path = tuple[str | int, ...]
 # The tokens of a statement, each with its line.
 Statement = list[tuple[int, str]]
-# Strings of several lines and of one, comments, punctuation, and everything between them.
+# Multi-line and single-line strings, comments, punctuation, and everything between them.
 TOKEN = re.compile(
     r'"""(?:[^\\]|\\.)*?"{3,5}|\'\'\'.*?\'{3,5}|"(?:[^"\\]|\\.)*"|\'[^\']*\'|#[^\n]*|[\[\]{}=,\n]|[^\s\[\]{}=,"\'#]+', re.DOTALL
 )
@@ -18,10 +18,10 @@ PLACE = re.compile(r" \(at line (\d+), column \d+\)")
 KEY = re.compile(r"\s*([A-Za-z0-9_-]+)")
 
 
-# The time that Python's parser takes for a dotted key grows with the square of its dots, so more dots are refused.
+# The time that Python's parser takes for a dotted key grows with the square of the number of dots, so more dots are refused.
 MOST_DOTS = 100
-# Each key, table and member of an array has one of these signs. A value takes some hundred bytes of memory, so more of them are refused: this many
-# suffice for the greatest schedule and the greatest number of players.
+# Each key, table and member of an array has one of these signs. Each value takes memory, so a file with more signs is refused. This many suffice for
+# the longest schedule and the greatest number of players.
 SIGNS, MOST_SIGNS = frozenset("=,["), 150_000
 
 
@@ -49,8 +49,8 @@ def read_toml(text: str) -> tuple[dict, dict[Path, int]]:
 
 
 def refuse_too_many(text: str) -> None:
-    """Refuses more dots than a key may have between two signs of punctuation, and more signs than a file may have. Python's parser reads no further
-    than the first unfinished string."""
+    """Refuses a text that has more dots between two punctuation marks than a key may have, or more signs than a file may have. Python's parser reads
+    no further than the first unfinished string."""
     line, dots, signs, end = 1, 0, 0, 0
     for token in TOKEN.finditer(text):
         if text[end : token.start()].strip():

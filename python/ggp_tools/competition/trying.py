@@ -1,4 +1,4 @@
-"""Starts one player of a competition that has a command, and checks it with the referee."""
+"""Starts one player that has a command, and checks it with the referee."""
 
 import asyncio
 import pathlib
@@ -19,7 +19,7 @@ NO_MATCH = "try"
 
 
 def chosen(competition: Competition, path: pathlib.Path, name: str, game: str | None) -> tuple[Player, Game]:
-    """Returns the player and the game of these names. Refuses a player without a command."""
+    """Returns the player and the game with these names. Refuses a player without a command."""
     player = next((player for player in competition.players if player.name == name), None)
     if not player or not player.command:
         raise Refused(f"{path}: {name} has no `command`; `ggp_manager check` tests a running player" if player else f"{path} has no player {name}")

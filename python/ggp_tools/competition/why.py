@@ -1,4 +1,4 @@
-"""Explains what happened to the players of a match, turn by turn: by its record, its log, and the journal of `play`."""
+"""Explains what happened to the players of a match, turn by turn, from its record, its log, and the journal of `play`."""
 
 import contextlib
 import functools
@@ -37,8 +37,8 @@ MARKS = {
 
 @dataclass
 class Entry:
-    """What happened at a time, which is empty if it is unknown; to one role, or to all. The journal and the log may be of two computers, whose clocks
-    differ."""
+    """What happened, with the time, which is empty if it is unknown, and the role, which is None if it happened to all. The journal and the log may
+    be from two computers whose clocks differ."""
 
     time: str
     role: int | None
@@ -59,20 +59,21 @@ def marked(entries: list[Entry]) -> list[Entry]:
 
 
 def parts_at(notes: list[Entry], beginning: str) -> list[list[Entry]]:
-    """Splits notes before each one whose text begins like this."""
+    """Splits notes before each note whose text begins with `beginning`."""
     starts = [at for at, note in enumerate(notes) if note.text.startswith(beginning)]
     return [notes[start:end] for start, end in itertools.pairwise([0, *starts, len(notes)])]
 
 
 def merged(*parts: list[Entry]) -> list[Entry]:
-    """Returns entries of the log and of the journal by their times, or one after the other if a clock was set back or a time is unknown."""
+    """Returns entries of the log and of the journal in the order of their times, or one part after the other if a clock was set back or a time is
+    unknown."""
     is_known = all(entry.time for part in parts for entry in part) and all(marked(part) == part for part in parts)
     return sorted(itertools.chain(*parts), key=lambda entry: entry.time) if is_known else list(itertools.chain(*parts))
 
 
 def in_order(notes: list[Entry], runs: list[list[Entry]], match_id: str) -> list[Entry]:
-    """Merges the notes of the journal and the runs of the log, both about one role. A run is between the notes of its beginning and its end, and the
-    notes about the player are at their times. The log may lack the first runs."""
+    """Merges the notes of the journal and the runs of the log, both about one role. A run comes between the notes of its beginning and its end, and
+    the notes about the player are placed by their times. The log may lack the first runs."""
     before, *begun = parts_at(notes, f"begin {match_id} ")
     if not begun:
         return [*notes, *sum(runs, [])]
@@ -113,7 +114,7 @@ class Explanation:
         return players.index(player) if kind in OF_PLAYER and player in players else None
 
     def runs(self) -> list[list[Entry]]:
-        """Returns the messages of each run of the match by its log, which may still grow."""
+        """Returns the messages of each run of the match from its log, which may still be growing."""
         open_log = self.folder.room_log(self.match.id)
         file = open_log if not self.record and open_log.is_file() else self.folder.log(self.match.id)
         runs: list[list[Message]] = [[]]

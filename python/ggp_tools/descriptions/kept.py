@@ -1,5 +1,5 @@
-"""The files of the cache directory, and the cache of the results of grounding, by the checksum of everything that they depend on: the description, the
-code, the grounder and the options."""
+"""The files of the cache directory, and the cache of the results of grounding. The key of a result is a checksum of everything that it depends on:
+the description, the code, the grounder and the options."""
 
 import contextlib
 import hashlib
@@ -10,7 +10,7 @@ import shutil
 from ggp_tools.competition.files import opened_file, write_whole
 
 HERE = pathlib.Path(__file__).resolve().parent
-# Above this number of results, those that were not used for the longest time are deleted.
+# If there are more results than this, those that have not been used for the longest time are deleted.
 MOST_KEPT = 200
 KIND = "instantiated"
 
@@ -22,12 +22,13 @@ def cache() -> pathlib.Path:
 
 
 def sealed(name: str, data: bytes) -> bytes:
-    """Returns the contents of a cached file of this name. Under another name they are not read."""
+    """Returns the contents of a cached file with this name. Under another name, these contents are not accepted."""
     return hashlib.sha256(f"{name}\n".encode() + data).hexdigest().encode() + b"\n" + data
 
 
 def cached(kind: str, name: str) -> bytes | None:
-    """Returns what `store` has stored under this name, or None if the file has changed since, or if another user can have written or placed it."""
+    """Returns what `store` has stored under this name, or None if the file has changed since then, or if another user may have written or placed
+    it."""
     path = cache() / kind / name
     try:
         with opened_file(path, os.O_NOFOLLOW) as file:
@@ -43,8 +44,8 @@ def cached(kind: str, name: str) -> bytes | None:
 
 
 def store(kind: str, name: str, data: bytes, most: int) -> None:
-    """Stores a private file, and deletes those of its kind that were not used for the longest time, above so many. If it cannot be written, its contents
-    are computed again the next time."""
+    """Stores a private file, and keeps only the `most` files of this kind that were used last. If the file cannot be written, its contents are
+    computed again the next time."""
     with contextlib.suppress(OSError, RuntimeError):
         folder = cache() / kind
         folder.mkdir(parents=True, exist_ok=True)
@@ -62,7 +63,7 @@ def sources() -> list[pathlib.Path]:
 def sum_of_work(text: bytes, options: list[str]) -> str:
     """Returns the checksum of everything that a result depends on. The time limit is not part of it."""
     checksum = hashlib.sha256()
-    # The size and the time of the file identify the grounder, because asking for its version would mean to run it.
+    # The size and the time of the file identify the grounder, because it would have to be run to get its version.
     path = shutil.which("gringo")
     grounder = f"{path} {os.stat(path).st_size} {os.stat(path).st_mtime_ns}".encode() if path else b""
     for part in (text, grounder, *(file.read_bytes() for file in sources()), *(option.encode() for option in options)):

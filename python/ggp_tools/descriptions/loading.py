@@ -22,7 +22,7 @@ from ggp_tools.referee import BadRules, Referee
 FOLDER = pathlib.Path(__file__).resolve().parents[2]
 # The maximum lengths of a description, and of the text for players.
 MOST_BYTES, MOST_BYTES_FOR_PLAYERS = LARGE["bytes"], 1 << 20
-# The command and the file before the place of a sentence.
+# The command and the file that precede the place of a sentence in a message.
 PLACED = re.compile(r"ggp-instantiate: .*?: (?=line [0-9]+, column [0-9]+: )")
 STOPPED = re.compile(r"ggp-instantiate: stopped after ")
 
@@ -37,7 +37,7 @@ class Stopped(NoDescription):
 
 @dataclass(frozen=True)
 class Rules:
-    """The ground description of a game: its text, checksum and roles. `player_rules` is the description for players, if it is not this text.
+    """The ground description of a game: its text, checksum and roles. `player_rules` is the description for players, if that is not the same text.
     `description_sum` is the checksum of the file that all this was made from, if known."""
 
     text: bytes
@@ -66,7 +66,7 @@ def sentence_starts(text: bytes) -> list[int]:
 
 
 def look_at_sentences(text: bytes) -> None:
-    """Checks sentences like `ggp-instantiate` does before it grounds."""
+    """Checks sentences as `ggp-instantiate` does before it grounds them."""
     description = text.decode("latin-1")
     try:
         Relations(all_rules(kif.expressions(description))).refuse_dependence()
@@ -85,7 +85,8 @@ def run_module(name: str, *words: str, data: bytes | None = None) -> subprocess.
 
 
 def why_not(made: subprocess.CompletedProcess) -> str:
-    """Returns why a run of `ggp-instantiate` failed: its last line, after the sentences that cost most if a limit was exceeded."""
+    """Returns why a run of `ggp-instantiate` failed: the last line that it printed, preceded by the sentences that cost the most if a limit was
+    exceeded."""
     lines = made.stderr.decode(errors="replace").strip().splitlines() or [f"ggp-instantiate ended with status {made.returncode}"]
     return "\n".join([*(line.strip() for line in lines[:-1] if line.startswith("  largest: ")), PLACED.sub("", lines[-1])])
 
@@ -118,7 +119,7 @@ def rules_of(
     notes: tuple[str, ...] = (),
 ) -> Rules:
     """Returns the rules of a ground description, as the referee reads it. If it exceeds the usual limits, the large ones apply. Refuses what the
-    referee refuses, in its words."""
+    referee refuses, with the referee's message."""
     large = referee.taking(True)
     programs = [large] if referee.is_large or LARGE_NOTE in notes_of(text) else [referee, large]
     for program in programs:
@@ -160,7 +161,7 @@ def load_description(path: pathlib.Path, referee: Referee, tells_variables: bool
 
 
 def load_described(path: pathlib.Path, described: pathlib.Path, referee: Referee, tells_variables: bool) -> Rules:
-    """Returns the rules of a ground file, with the text for players from the description with variables next to it."""
+    """Returns the rules of a ground file. The text for players is made from the description with variables that belongs to it."""
     ground = read_text(path)
     if has_variables(ground):
         raise NoDescription("it has variables, so it needs no other description")

@@ -29,11 +29,11 @@ def sum_of(texts: list[str]) -> bytes:
 
 
 class Played(Match):
-    """A match that keeps its last state, and only checksums of the others."""
+    """A match that keeps its last state, and only checksums of the earlier ones."""
 
     def __init__(self, game: Game, name: str, players: list[str]) -> None:
         super().__init__(game, name, 1, 1, players)
-        # The bytes left in a script, and the number of turns that fit, with the state after them.
+        # The number of bytes left in a script, and the number of turns that fit into it, with the state after these turns.
         self.room, self.held = MOST_BYTES - BESIDE_TURNS, (0, self.states[0])
 
     def turn(self, judged: list[tuple]) -> None:
@@ -88,7 +88,7 @@ class RandomMatches:
         sys.setrecursionlimit(MOST_CALLS)
 
     def run(self, seed: int, count: int) -> None:
-        """Plays this many matches, with seeds from this one on. Reports problems in notes."""
+        """Plays this many matches, with consecutive seeds that begin with this one. Reports problems in notes."""
         try:
             for number in range(count):
                 self.play(seed + number, f"match {number + 1} of {count}")

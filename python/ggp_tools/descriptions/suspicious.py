@@ -26,7 +26,7 @@ KNOWN = {("role", 1), ("legal", 2), ("goal", 2), ("terminal", None)}
 # The keywords of GDL with the numbers of their arguments: None for an atom, "any" for any number.
 HEADS = {**{name: ARITIES[name] for name in GAME}, "base": 1, "input": 2, "<=": "any"}
 CONDITIONS = {"role": 1, "true": 1, "does": 2, "legal": 2, "goal": 2, "terminal": None, "not": 1, "distinct": 2, "or": "any"}
-# What people write instead of them, apart from misspellings.
+# What people write instead of these keywords, apart from misspellings.
 OFTEN = {
     "<=": "=> <- -> :- <== ==> =< >= <=> < = if".split(),
     "init": "initial initially start".split(),
@@ -99,7 +99,7 @@ def places(atom: Expression, way: Way = ()) -> Iterator[tuple[Way, object]]:
 
 
 def without_names(term: Expression) -> Expression:
-    """Replaces all variables of a term by the same one."""
+    """Replaces all variables of a term with the same one."""
     if isinstance(term, str):
         return "?" if term.startswith("?") else term
     return tuple(map(without_names, term))
@@ -140,7 +140,7 @@ class Atoms:
         return {*self.plain, *self.open}
 
     def like(self, atom: Expression) -> Iterator[Expression]:
-        """Yields those that can be equal to this one, itself first."""
+        """Yields the sentences that can be equal to this one, and this one first if it is among them."""
         key, is_open = relation(atom), bool(variables(atom))
         if not is_open and atom in self.plain.get(key, ()):
             yield atom
@@ -151,7 +151,7 @@ class Atoms:
                 yield from (candidate for candidate in self.indexes[name, key].alike(atom) if may_be(candidate, atom))
 
     def may_give(self, atom: Expression) -> bool:
-        """Returns whether one of them can be equal to this one."""
+        """Returns whether one of the sentences can be equal to this one."""
         asked = without_names(atom)
         if asked not in self.answers:
             self.answers[asked] = next(self.like(asked), None) is not None
@@ -220,7 +220,7 @@ def member_starts(text: str, at: int, ways: set[tuple]) -> dict[tuple, int]:
 
 
 def meant(atom: Expression, words: dict[str, int | str | None], names: Sequence[str] = ()) -> str | None:
-    """Returns the GDL keyword or the name that is probably meant by a relation, judging by its spelling and its number of arguments, or None."""
+    """Returns the GDL keyword or the name that the author of a relation probably meant, judging by spelling and number of arguments, or None."""
     name, count = relation(atom)
     if len(name) > MOST_SHOWN:
         return None
@@ -239,7 +239,7 @@ def form(name: str, count: int | None) -> str:
 
 
 def listed(name: str, counts: Sequence[int | None]) -> str:
-    """Returns the forms of a relation with these numbers of arguments, at most the first few."""
+    """Returns the forms of a relation with these numbers of arguments, or only the first few of them."""
     return " and ".join([f"`{form(name, count)}`" for count in counts[:MOST_LISTED]] + ["others"] * (len(counts) > MOST_LISTED))
 
 
@@ -371,14 +371,14 @@ class Search:
                     yield from self.of_instance(atom, words, ("role", atom[1]))
 
     def of_instance(self, atom: Expression, words: str, kind: tuple) -> Iterator[Finding]:
-        """Yields the finding for an instance, at its head if only one is possible."""
+        """Yields the finding for an instance, at the head that it comes from if only one is possible."""
         parts = [] if atom in self.parts else [part for head in self.heads.like(atom) for part in self.parts[head]]
         if parts:
             is_sure = len(parts) == 1
             yield Finding(parts[0]._replace(atom=atom) if is_sure else None, words if is_sure else f"{words}: {quoted(atom, MOST_SHOWN)}", kind)
 
     def of_roles(self) -> Iterator[Finding]:
-        """Yields what a role lacks, and whether there is no end."""
+        """Yields a finding for each role without legal moves or goals, and one if no match can end."""
         for atom in self.known.plain.get(("role", 1), ()):
             self.look_at_clock()
             for name in ("legal", "goal"):
@@ -390,7 +390,7 @@ class Search:
 
 
 class Suspicions(NamedTuple):
-    """The suspicious sentences, in lines, and why the check is incomplete, empty if it is complete."""
+    """The suspicious sentences, in lines, and why the check is incomplete. That text is empty if the check is complete."""
 
     lines: list
     cut: str
@@ -413,7 +413,7 @@ def suspicions(text: bytes, ground: bytes | None = None, seconds: float | None =
 
 
 def lines_of(description: Description, found: list[Finding]) -> list[str]:
-    """Returns the lines for findings, one for each kind, at the place of the first."""
+    """Returns the lines for findings, one for each kind, with the place of the first finding of the kind."""
     counts, firsts = Counter(finding.kind for finding in found), {}
     for finding in sorted(found, key=lambda finding: finding.part[:2] if finding.part else (len(description.starts), ())):
         firsts.setdefault(finding.kind, finding)

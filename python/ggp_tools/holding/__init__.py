@@ -1,1 +1,1 @@
-"""Checks records against the published description of a game. It shares no code with grounding or with the referee, except for the parser."""
+"""Checks records against the published description of a game. Except for the parser, it shares no code with the grounding or with the referee."""

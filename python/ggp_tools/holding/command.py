@@ -38,8 +38,8 @@ def arguments() -> argparse.Namespace:
 
 
 class Holding:
-    """Checks records of one description. `following` is None until the description is parsed. Its caches serve all records. If a check was
-    interrupted, they may be incomplete and are dropped."""
+    """Checks records against one description. `following` is None until the description is parsed. Its caches are used for all records. If a check is
+    interrupted, they may be incomplete, so they are dropped."""
 
     def __init__(self, text: str, name: str = "the description") -> None:
         self.text, self.name, self.following = text, name, None
@@ -68,7 +68,7 @@ class Holding:
         return SAME, f"the same: {counted(turns, 'turn')}"
 
     def game(self) -> Game:
-        """Parses the game. Refuses an invalid one, with the place."""
+        """Parses the game. Refuses an invalid description, and names the place of the error."""
         try:
             return Game(self.text)
         except Refused as why:
@@ -102,7 +102,7 @@ def limit_memory() -> None:
 
 
 def records_in(files: Iterable[str]) -> Iterator[bytes]:
-    """Yields the lines of files that are not empty."""
+    """Yields the lines of files, except empty ones."""
     for name in files:
         with opened(name) as file:
             yield from (line for line in file if line.strip())

@@ -1,8 +1,7 @@
-"""Compiles rules to Python functions, one for each relation and each set of its arguments that are known when it is queried.
+"""Compiles rules to Python functions, one for each relation and each set of arguments that are known when the relation is queried.
 
-If all arguments are known, the function returns whether the sentence is true, otherwise the unknown arguments of all answers, without duplicates.
-Results are cached for each position. Relations that depend on themselves are derived completely, bottom-up from the facts.
-"""
+If all arguments are known, the function returns whether the sentence is true, and otherwise it returns the unknown arguments of all answers, without
+duplicates. Results are cached for each position. Relations that depend on themselves are derived completely, bottom-up from the facts. """
 
 from collections.abc import Callable, Iterable, Iterator, Sequence
 
@@ -80,14 +79,14 @@ class Program:
         return name
 
     def table(self, key: tuple, is_timely: bool) -> int:
-        """Returns the number of a table of results. A timely table is per position, others are permanent."""
+        """Returns the number of a table of results. A timely table belongs to one position; other tables are permanent."""
         number = self.relations.tables.setdefault(key, len(self.relations.tables))
         if not is_timely:
             self.relations.fixed.setdefault(number, {})
         return number
 
     def facts(self, relation: Relation, places: tuple[int, ...] | None) -> str:
-        """Returns the name of the facts of a relation: all of them, or an index by these arguments."""
+        """Returns the name of the facts of a relation: a table of all facts, or an index by these arguments."""
         key = "facts", relation, places
         if key not in self.made:
             rows = self.relations.facts.get(relation, {})
@@ -130,7 +129,7 @@ class Lines:
                     self.part(place, member, f"{value}[{index}]", bound)
 
     def part(self, place: int, pattern: Term, value: str, bound: Bound) -> None:
-        """Matches a part of a term. It is assigned to a variable if it is used more than once."""
+        """Matches a part of a term. The part is assigned to a variable if it is used more than once."""
         if not is_known(pattern, bound):
             name = self.fresh()
             self.put(place, f"{name} = {value}")
@@ -167,7 +166,7 @@ class Lines:
         return 2 if isinstance(condition, Either) else 0
 
     def texts(self, relation: tuple, arguments: list, bound: dict[str, str]) -> list[str]:
-        """Returns expressions for the arguments of a query. In a relation that queries itself terms may grow, so `low` limits their depth."""
+        """Returns expressions for the arguments of a query. In a relation that queries itself, terms may grow, so `low` limits their depth."""
         may_grow = relation in self.program.relations.denying
         found = [(argument, term_text(argument, bound)) for argument in arguments]
         return [f"low({text})" if may_grow and is_built(argument) else text for argument, text in found]
@@ -260,7 +259,7 @@ class Lines:
     # ---- Bodies ----------------------------------------------------------------------------------
 
     def body(self, place: int, conditions: Iterable[Condition], bound: Bound, finish: "Finish") -> None:
-        """Checks all conditions in the cheapest order, and finishes for each way to satisfy them."""
+        """Writes the lines that check all conditions, in the cheapest order, and that finish for each way to satisfy them."""
         left, depth = list(conditions), 0
         while True:
             for test in sorted((condition for condition in left if is_test(condition, bound)), key=self.cost):
@@ -292,7 +291,7 @@ class Lines:
         return min(binding, key=lambda condition: self.program.sizes.answers(condition, bound))
 
     def product(self, place: int, groups: list[list[Condition]], bound: Bound, finish: "Finish") -> None:
-        """Checks groups of conditions without common variables, each group only once."""
+        """Writes the lines that check groups of conditions without common variables, each group only once."""
         answers = []
         for group in sorted(groups, key=lambda group: self.program.sizes.answers(self.least(group, bound), bound)):
             own = {name for condition in group for name in variables_of(condition)}
@@ -311,8 +310,8 @@ class Lines:
         finish.write(self, place, bound)
 
     def helper(self, left: list[Condition], bound: Bound, finish: "Finish", answers: str = "F") -> str:
-        """Returns a call of a new function that checks conditions. It returns whether they can be satisfied, or adds to the answers and returns
-        these."""
+        """Returns a call of a new function that checks conditions. The function returns whether the conditions can be satisfied, or adds the answers
+        to those so far and returns them."""
         name, needed = self.program.fresh("h"), {variable for condition in left for variable in variables_of(condition)} | set(finish.names)
         live = {variable: text for variable, text in bound.items() if variable in needed}
         inner, names = Lines(self.program, self.extra), {variable: self.program.fresh("v") for variable in live}
@@ -416,7 +415,7 @@ class Asking:
         return lines.text() + "\n".join(self.kept()) + "\n"
 
     def is_plain(self) -> bool:
-        """Returns whether there are no variables, so that the result is whether one of some tests holds."""
+        """Returns whether there are no variables, so that the relation is true if one of several tests holds."""
         relations = self.program.relations
         rules = () if self.known or self.relation in relations.circles or self.relation in relations.denying else relations.rules.get(self.relation, ())
         return bool(rules) and all(is_test(condition, {}) for rule in rules for condition in rule.body)
@@ -496,7 +495,7 @@ class Circle:
         return [at for at, condition in enumerate(body) if isinstance(condition, Asked) and condition.relation in self.circle]
 
     def put_variant(self, lines: Lines, number: int, rule: Rule, at: int, variants: list[list[str]]) -> None:
-        """Writes the function that derives what follows by a rule from one new row of the condition at this index."""
+        """Writes the function that derives, by one rule, everything that follows from a new row of the condition at this index."""
         name, asked, bound = self.program.fresh("d"), rule.body[at], {}
         variants[self.circle.index(asked.relation)].append(name)
         lines.put(0, f"def {name}(D, W, R):")

@@ -43,7 +43,7 @@ def canonical_term(text: str) -> Term:
 
 
 class Following:
-    """The game, with caches of terms and their texts. `seen` has the first sentence that was seen to derive a move of a role."""
+    """The game, with caches of terms and their texts. For each role and move, `seen` has the first sentence that was seen to derive the move."""
 
     def __init__(self, game: Game) -> None:
         self.game, self.seen, self.in_order = game, {}, list(game.roles)
@@ -80,7 +80,7 @@ class Following:
         raise Differs("\n".join(lines or [f"{when} has a term twice"]))
 
     def cited(self, relation: Relation, arguments: Sequence[Term], state: State, moves: Sequence[Term] = ()) -> str:
-        """Returns which sentences derive this in a state, as the subject of a clause."""
+        """Names the sentences that derive this in a state, as the beginning of a clause."""
         numbers = self.game.sources(relation, arguments, state, self.own_order(moves))
         return " and ".join(f"{self.game.cited(number)} gives" for number in numbers[:MOST_TOLD]) or "the description gives"
 
@@ -116,8 +116,8 @@ class Following:
             self.look_at_first(when, position, role, move)
 
     def look_at_first(self, when: str, position: Position, role: str, first: Term) -> None:
-        """Checks that no legal move must come before the one that replaces an answer. Moves are ordered by the sentence that derives them, then by
-        head. If several sentences derive a move, its place may be unknown."""
+        """Checks that the move that replaces an answer can be the first legal one. Moves are ordered by the sentence that derives them, then by head.
+        If several sentences derive a move, its place in this order may be unknown."""
         least = self.least_place(role, first)
         for move in self.game.moves(position, role):
             greatest = self.greatest_place(position, role, move)

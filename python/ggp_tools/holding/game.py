@@ -45,7 +45,7 @@ class Game:
         return self.program.position(state, list(zip(self.roles, moves)), rows)
 
     def compile(self) -> None:
-        """Compiles what each turn uses, so that the first turn does not."""
+        """Compiles the functions that each turn uses, so that the first turn does not take longer."""
         for relation, known in ((TERMINAL, ()), (LEGAL, (True, True)), (NEXT, (False,))):
             self.program.function(relation, known)
 
@@ -68,7 +68,7 @@ class Game:
         return sorted({int(goal) for goal in self.goal_terms(position, role) if isinstance(goal, str) and GOAL_NUMBER.fullmatch(goal)})
 
     def goal_terms(self, position: Position, role: Term) -> list[Term]:
-        """Returns all goals of a role, also invalid ones."""
+        """Returns all goals of a role, including invalid ones."""
         return position.ask(GOAL, (True, False))(position, role)
 
     def sources(self, relation: Relation, arguments: Sequence[Term], state: State, moves: Sequence[Term] = ()) -> list[int]:

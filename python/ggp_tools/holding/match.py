@@ -10,7 +10,7 @@ MOST_TURNS = 10_000
 
 
 def texts_of(state: State) -> list[str]:
-    """Returns the terms of a state as in a record."""
+    """Returns the terms of a state as a record has them."""
     return sorted(map(spelled, state))
 
 

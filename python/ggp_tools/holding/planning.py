@@ -12,7 +12,7 @@ from .relations import Relations
 
 # The assumed number of values of an argument if a relation has no rows yet, and the maximum of an estimate.
 FEW, MOST = 3.0, 1e6
-# If a state has GROWTH times the terms that the plan was made for, the rules are planned again.
+# If a state has more than GROWTH times as many terms as the plan was made for, the rules are planned again.
 GROWTH, LEAST = 4, 2
 
 
@@ -40,7 +40,7 @@ def unknown(arguments: int) -> Table:
 
 
 class Sizes:
-    """Estimates the number of answers of conditions, from the facts and from the terms of states so far, by functor."""
+    """Estimates the number of answers of conditions from the facts, and from the numbers of terms with each functor in the states so far."""
 
     def __init__(self, relations: Relations, roles: int, terms: Mapping[Relation, Collection[Term]]) -> None:
         self.relations, self.terms, self.tables = relations, terms, {}
@@ -48,7 +48,7 @@ class Sizes:
         self.all_terms = float(sum(map(len, terms.values())) or FEW)
 
     def after(self, terms: Mapping[Relation, Collection[Term]]) -> "Sizes | None":
-        """Returns the sizes updated with a state that has many more terms of some functor, or None if it does not."""
+        """Returns new sizes if a state has many more terms with some functor than the states before, or else None."""
         if all(len(rows) <= GROWTH * max(LEAST, len(self.terms.get(functor, ()))) for functor, rows in terms.items()):
             return None
         larger = {functor: rows for functor, rows in terms.items() if len(rows) > len(self.terms.get(functor, ()))}
@@ -94,7 +94,7 @@ class Sizes:
         return Table(rows, [min(rows, max(column, values_at(place, joined))) for place, column in enumerate(columns)])
 
     def joined(self, body: Iterable[Condition]) -> tuple[float, dict[str, float]]:
-        """Returns in how many ways all conditions hold, and how many values each variable has."""
+        """Estimates in how many ways all conditions hold, and how many values each variable has."""
         count, values, left = 1.0, {}, [condition for condition in body if isinstance(condition, Asked) and condition.positive]
         while left:
             best = min(left, key=lambda condition: self.answers(condition, values))
@@ -108,7 +108,8 @@ class Sizes:
 
 
 def values_at(place: int, joined: Iterable[tuple[Rule, float, Mapping[str, float]]]) -> float:
-    """Returns how many values an argument of a relation has by its rules: those of a variable, or one for each term without variables."""
+    """Estimates how many values an argument of a relation has, from the rules of the relation: as many as the variables in it, or one for each term
+    without variables."""
     most, constants = 1.0, set()
     for rule, _, values in joined:
         argument = rule.arguments[place]

@@ -1,8 +1,7 @@
 """Parses the rules of a description for the interpreter.
 
-Conditions of rules are the classes below. Only derived sentences are negated, and an `or` is kept only if other conditions of the rule bind all of
-its variables. In a ground description each atomic sentence becomes a relation.
-"""
+The classes below are the conditions of rules. Only sentences that can be derived are negated, and an `or` is kept only if other conditions of the
+rule bind all variables in it. In a ground description each atomic sentence becomes a relation. """
 
 from collections.abc import Iterator
 from functools import lru_cache
@@ -70,7 +69,7 @@ def low(term: Term) -> Term:
 
 
 def is_built(term: Term) -> bool:
-    """Returns whether a term is a list that has variables."""
+    """Returns whether a term is a list that contains variables."""
     return not isinstance(term, str) and bool(variables(term))
 
 
@@ -100,8 +99,8 @@ def tests_of(literal: Expression, positive: bool = True) -> list[Condition]:
 
 
 def rules_of(number: int, sentence: Expression, names: Iterator[str]) -> list[Rule]:
-    """Returns the rules of a sentence. An `or` whose variables are bound by other conditions becomes one condition. The ways of another `or` become
-    rules."""
+    """Returns the rules of a sentence. An `or` whose variables are bound by other conditions becomes one condition. Any other `or` becomes one rule
+    for each of its alternatives."""
     head, body = gdl.parted(sentence)
     bound = {name for literal in body if literal[0] not in gdl.NO_RELATIONS for name in variables(literal)}
     tested = {literal: None for literal in body if literal[0] in ("or", "and", "not") and bound.issuperset(variables(literal))}

@@ -28,11 +28,11 @@ class Relations:
             self.take(set(group))
 
     def source(self, head: Relation, asked: Relation) -> int:
-        """Returns the first sentence by which a relation uses another."""
+        """Returns the first sentence in which a relation uses another."""
         return next(rule.sentence for rule in self.rules[head] if any(condition.relation == asked for condition in all_asked(rule.body)))
 
     def take(self, group: set[Relation]) -> None:
-        """Classifies relations that depend on each other. Those that they use are classified already."""
+        """Classifies relations that depend on each other. The relations that they use have already been classified."""
         if any(asked in self.timely for relation in group for asked in self.asks[relation]):
             self.timely |= group
         if len(group) == 1 and not group & self.asks[next(iter(group))].keys():

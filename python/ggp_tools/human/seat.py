@@ -16,7 +16,7 @@ from ggp_tools.kif import Refused, expressions, spelled
 HEAD = re.compile(r"\s*\(\s*([A-Za-z]+)\s+([^\s()]+)")
 # Answers are sent this many seconds before the referee's clock runs out.
 SPARE = 0.5
-# A referee that is this many seconds late with its next message is considered lost. Then a START of another referee is accepted.
+# A referee that is this many seconds late with its next message is considered lost. Then a START from another referee is accepted.
 PATIENCE = 10.0
 NO_MOVES = ("nil", ())
 # A referee introduces itself with one of these messages.
@@ -44,7 +44,7 @@ def head_of(text: str) -> tuple[str, str]:
 
 
 def members_of(text: str) -> tuple:
-    """Returns what a message has after its keyword and its match."""
+    """Returns the members of a message after its keyword and its match."""
     try:
         # The rules in a message are parsed separately.
         terms = expressions(text, math.inf, takes_bytes=True)
@@ -165,7 +165,7 @@ class Seat:
             return self.asked
 
     def start(self, match: str, receiver: str, text: str) -> str:
-        """Begins a match after a page was opened. While another START is read, answers `busy`."""
+        """Begins a match, and waits until a page is open. While another START is being read, answers `busy`."""
         began, reading = time.monotonic(), self.reading
         if not reading.acquire(blocking=False):
             return "busy"

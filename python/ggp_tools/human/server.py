@@ -46,7 +46,7 @@ def is_own_name(host: str, own: str) -> bool:
 
 
 class Request(io.RawIOBase):
-    """A request that is read from a socket within a deadline. It is a connection of visitors."""
+    """A request that is read from a socket within a deadline. `visitors` counts it as a connection."""
 
     def __init__(self, connection: socket.socket, client: str, visitors: Visitors) -> None:
         self.connection, self.client, self.visitors = connection, client, visitors
@@ -153,7 +153,7 @@ class Handler(BaseHTTPRequestHandler):
         self.reply(HTTPStatus.OK, "text/acl", answer.encode("latin-1"))
 
     def take_move(self, body: bytes) -> None:
-        """Takes the person's move, or leaves a match."""
+        """Takes the person's move, or a request to leave the match."""
         seat = self.server.seat
         try:
             values = json.loads(body)
@@ -221,7 +221,7 @@ class Server(ThreadingHTTPServer):
         super().shutdown_request(request)
 
     def handle_error(self, request: socket.socket, client_address: tuple[str, int]) -> None:
-        """Prints errors, but not those of connections, which visitors can cause."""
+        """Prints errors, except those of connections, because visitors can cause them."""
         if not isinstance(sys.exception(), OSError):
             super().handle_error(request, client_address)
 

@@ -1,8 +1,8 @@
 """Factors ground rules into fewer and shorter sentences for the same game.
 
-Rules with one head that differ in one literal are repeatedly merged into one with an `or`. If this makes the text smaller, a sentence that is used
-once, or that only renames another, is inlined, and a formula that many sentences share becomes a sentence. If there are still too many sentences,
-those of one head are joined and more are inlined, the cheapest in bytes first.
+Rules with the same head that differ in only one literal are repeatedly merged into one rule with an `or`. If this makes the text smaller, a sentence
+that is used once, or that only renames another, is inlined, and a formula that many sentences share becomes a sentence. If there are still too many
+sentences, those with the same head are joined and more are inlined, the cheapest in bytes first.
 
 The meaning of sentences never changes, so states, moves, goals and ends stay the same. The first sentence of a head keeps its place, so the
 order of roles and of legal moves stays the same too.
@@ -23,17 +23,17 @@ Formed = frozenset[int]
 # Joined sentences are nested at most this deep.
 MOST_DEEP = 48
 ROUNDS = 30
-# A lower bound for the bytes of a sentence with a condition, if its names are as short as those of parts.
+# A lower bound for the bytes of a sentence with a condition, if the names in it are as short as those of parts.
 LEAST_BYTES = 24
 
 
-# In all tried games, factoring takes at least MORE_WORK times the work of the first estimate. If sentences must be inlined, the text shrinks by at
-# most the factor SHORTER.
+# In all games that were tried, factoring takes at least MORE_WORK times the work of the first estimate. If sentences must be inlined, the text
+# shrinks at most by the factor SHORTER.
 MORE_WORK, SHORTER = 1.5, 2
 
 
 class Hopeless(Refused):
-    """The game exceeds a limit however it is factored, or factoring it takes more work than allowed."""
+    """The game exceeds a limit no matter how it is factored, or factoring it takes more work than allowed."""
 
 
 class Target(NamedTuple):
@@ -45,8 +45,8 @@ class Target(NamedTuple):
 
 
 class Folded:
-    """The game as formulas: the bodies of each head, each a set of formulas that must all be true. `origins` has for each body how many of its bytes
-    come from which sentences of the description. Parts have no origins; theirs are those of the bodies that use them."""
+    """The game as formulas: the bodies of each head, each a set of formulas that must all be true. For each body, `origins` has the number of its
+    bytes that come from each sentence of the description. Parts have no entry there: they count like the bodies that use them."""
 
     def __init__(self, rules: list[Rule]) -> None:
         self.formulas, self.bodies, self.sources = Formulas(), {}, {}
@@ -72,7 +72,7 @@ class Folded:
         self.part_count, self.cache, self.most_work = 0, {}, math.inf
 
     def of_bodies(self, head: int, make: Callable) -> object:
-        """Computes a value from the bodies of a head. It is cached until these change."""
+        """Computes a value from the bodies of a head. The value is cached until the bodies change."""
         bodies, key = self.bodies[head], (head, make)
         if key not in self.cache or self.cache[key][0] is not bodies:
             if self.formulas.work > self.most_work:
@@ -180,7 +180,7 @@ class Folded:
             self.origins.pop(head, None)
 
     def factored(self, bodies: list[Formed], depth: int = 0) -> int:
-        """Returns one formula that is true if some body is. Formulas that most bodies share are factored out."""
+        """Returns one formula that is true if some body is. Formulas that bodies share are factored out."""
         if frozenset() in bodies:
             return TRUE
         if len(bodies) == 1:
@@ -195,8 +195,8 @@ class Folded:
         return self.formulas.any([shared_part, self.factored(others, depth + 1)]) if others else shared_part
 
     def join(self, most: int) -> None:
-        """Joins the sentences of one head into one, the cheapest first, until there are at most `most` sentences. It also joins those that this makes
-        shorter."""
+        """Joins the sentences of one head into one, the cheapest first, until there are at most `most` sentences. Sentences that this makes shorter
+        are joined in any case."""
         costs = []
         for head, bodies in self.bodies.items():
             if len(bodies) > 1:
@@ -269,7 +269,7 @@ class Folded:
 
     def must_have_room(self, target: Target) -> None:
         """Refuses a game that cannot be factored to a target, before much work is done. The sentences of the game's own relations stay, so the others
-        above the limit must be inlined. Their cost in bytes only grows later."""
+        above the limit must be inlined. The cost of that in bytes can only grow later."""
         if len(self.own) > target.sentences:
             raise Hopeless(f"sentences (at least {len(self.own):,} of {target.sentences:,})")
         many = len(self.bodies) - target.sentences
@@ -290,7 +290,7 @@ class Folded:
             raise Hopeless(f"bytes (about {self.bytes() // SHORTER:,} of {target.bytes:,})")
 
     def fold(self, target: Target) -> None:
-        """Factors the game, if possible to within the target."""
+        """Factors the game, and brings it within the target if possible."""
         self.most_work = target.work
         self.place_in(self.sentences())
         if self.sentences() > target.sentences:
@@ -429,8 +429,8 @@ def scaled(shares: Mapping[int, float], size: float) -> dict[int, float]:
 
 
 def merged(bodies: list[Formed], formulas: Formulas, origins: dict[Formed, Counter[int]]) -> list[Formed]:
-    """Merges bodies that differ in one literal into one with an `or`, as long as there are any. A merged body has the origins of all of its
-    bodies."""
+    """Merges bodies that differ in only one literal into one with an `or`, as long as there are such bodies. A merged body has the origins of all
+    bodies that it was made from."""
     while True:
         groups, known = {}, set(bodies)
         for body in bodies:
@@ -462,8 +462,8 @@ def begun(rules: list[Rule]) -> Folded:
 
 
 def folded(rules: list[Rule], targets: Sequence[Target]) -> Folded:
-    """Factors the game to the first of these targets that is possible. Each target is larger than the one before. Refuses the game if none is
-    possible."""
+    """Factors the game to within the first of these targets that it can reach. Each target is larger than the one before. Refuses the game if it can
+    reach none."""
     game, why = None, None
     for target in targets:
         game = game or begun(rules)

@@ -1,7 +1,7 @@
 """Formulas over ground atomic sentences. Each formula is stored once, with a number that is larger than those of its parts.
 
 In a turn each role makes exactly one of its moves. So exactly one of a role's `does` sentences is true, and the `or` of all of them is true. An `or`
-of most of them is equivalent to the negation of the `or` of the others."""
+of some of them is equivalent to the negation of the `or` of the others."""
 
 from collections import Counter
 from collections.abc import Iterable
@@ -62,7 +62,7 @@ class Formulas:
         return {member for number in numbers for member in (self.members(number) if self.nodes[number][0] == "or" else (number,))}
 
     def listed(self, members: set[int]) -> int:
-        """Returns the `or` of these without simplifying it."""
+        """Returns the `or` of these formulas without simplifying it."""
         if len(members) == 1:
             return next(iter(members))
         members = tuple(sorted(members))
@@ -90,7 +90,7 @@ class Formulas:
         return [number]
 
     def allowed(self, number: int) -> tuple[Expression, frozenset[int]] | None:
-        """If a formula is only about one role's moves, returns the role and the moves for which it is true, else None."""
+        """Returns the role and the moves for which a formula is true if it is only about the moves of one role, or else None."""
         node = self.nodes[number]
         if node[0] == "not":
             inner = self.allowed(node[1])
@@ -101,7 +101,7 @@ class Formulas:
         return None if roles or role is None else (role, frozenset(members))
 
     def body(self, numbers: Iterable[int]) -> frozenset[int] | None:
-        """Returns the formulas of a body as a set, with those about one role's moves combined. Returns None if it is never true."""
+        """Returns the formulas of a body as a set, with those about one role's moves combined. Returns None if the body is never true."""
         formulas, allowed = set(), {}
         for number in numbers:
             for part in self.parts(number):
@@ -119,7 +119,7 @@ class Formulas:
         return frozenset(formulas)
 
     def shortest(self, number: int) -> int:
-        """Returns the formula with few moves instead of many, wherever this is shorter."""
+        """Returns the formula with each `or` of many moves of a role replaced by the negated `or` of the others, wherever this is shorter."""
         node = self.nodes[number]
         if node[0] == "not":
             return self.no(self.shortest(node[1]))
@@ -129,7 +129,7 @@ class Formulas:
         for role, those in grouped((member for member in node[1] if member in self.role_of), self.role_of.get).items():
             others = self.no(self.listed(self.moves[role].difference(those)))
             together = self.listed(those)
-            # It stays a separate `or`, because other sentences may share it.
+            # This stays a separate `or`, because other sentences may share it.
             members.append(others if self.sizes[others] < self.sizes[together] else together)
         return members[0] if len(members) == 1 else self.listed(set(members))
 

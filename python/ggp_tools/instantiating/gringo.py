@@ -40,12 +40,12 @@ class LogicProgram:
         return literal.same or relation(literal.atom) not in self.unsettled
 
     def lines_of(self, rule: Rule) -> list[str]:
-        """Returns the lines of a rule. A relation that the grounder can evaluate is derived exactly. For the others everything that can be true is
-        derived, so negations are dropped."""
+        """Returns the lines of a rule. A relation that the grounder can evaluate is derived exactly. For other relations everything that may be true
+        is derived, so negations of them are dropped."""
         names = {name: f"V{k}" for k, name in enumerate(variables((rule.head, *(literal.atom for literal in rule.body))))}
         body = [self.literal(literal, names) for literal in rule.body if literal.positive or self.is_settled(literal)]
         if relation(rule.head)[0] not in GAME and relation(rule.head) not in self.unsettled:
-            # Errors cite the first rule of a relation that has conditions, else its first fact.
+            # Errors cite the first rule with conditions of a relation, or else its first fact.
             source = self.name(relation(rule.head))
             if source not in self.sources or (body and source not in self.derived):
                 self.sources[source] = rule.sentence
@@ -175,7 +175,7 @@ def limit_process(seconds: float) -> None:
     resource.setrlimit(resource.RLIMIT_AS, (MEMORY, MEMORY))
     if seconds < math.inf:
         most = math.ceil(seconds)
-        # At the second limit it would be killed without SIGXCPU, which shows the reason.
+        # At the hard limit the process would be killed without SIGXCPU, and only that signal shows the reason.
         resource.setrlimit(resource.RLIMIT_CPU, (most, most + 1))
 
 

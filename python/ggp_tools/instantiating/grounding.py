@@ -6,7 +6,7 @@ from operator import attrgetter
 from ggp_tools.kif import Expression, grouped, place, put, relation
 from ggp_tools.gdl import GAME, Body, Literal, Rule, reached
 
-# The grounded rules, each with the variables for which an instance has terms; and an instance: the number of its rule, and its terms.
+# The rules to ground, each with the variables for which an instance has terms; and an instance: the number of its rule, and its terms.
 Kept = Sequence[tuple[Rule, Sequence[str]]]
 Instance = tuple[int, Sequence[Expression]]
 

@@ -12,10 +12,10 @@ from ggp_tools.streams import report
 from ggp_tools.timed import Late, limited
 from ggp_tools.gdl import Relations, Rule, all_rules, as_read, cited, lines_of
 
-# When to factor a game: only if it exceeds a limit otherwise, always, or never.
+# When to factor a game: only if it would otherwise exceed a limit, always, or never.
 WHERE_NEEDED, ALWAYS, NEVER = "where needed", "always", "never"
 FOLDABLE = ("sentences", "atomic sentences", "bytes")
-# A longer game is factored if possible, also if it fits the limits of --large: each process that loads it needs memory for all of it.
+# A longer game is factored if possible, even if it fits the limits of --large, because each process that loads a game needs memory for all of it.
 LONG = {"sentences": 65536, "bytes": 4194304}
 # More than this many times a limit is far past it.
 FAR = 4
@@ -24,7 +24,7 @@ FAR = 4
 MOST_WORK = 400_000
 # After this many seconds intermediate results are reported at once.
 SOON = 2
-# Up to this many instances a description is tried unchanged. In this form it factors best, within seconds.
+# With up to this many instances, a description is tried unchanged first. This form gives the best result, and is factored within seconds.
 FEW_INSTANCES = 1 << 16
 
 
@@ -38,7 +38,7 @@ class Form(NamedTuple):
 
 def forms(rules: list[Rule], is_whole: bool, is_split: bool) -> list[Form]:
     """Returns the unchanged description if it has few instances, then the one with split rules, then the unchanged one with any number of instances.
-    If one of these was asked for, it is the only one."""
+    If only one of these is wanted, returns only that one."""
     whole, parts = Form(rules, gringo.MOST_INSTANCES), split(rules)
     if is_whole or len(parts) == len(rules):
         return [whole]
@@ -203,7 +203,7 @@ class Making:
 
     def written(self, rules: list[Rule]) -> Written:
         """Returns the ground description of rules: unchanged if it is within the usual limits, else factored. If factoring to within the usual limits
-        takes too much work, it is left unchanged within the large limits, unless it is long and can be made shorter."""
+        takes too much work, the description stays unchanged within the large limits, unless it is long and can be made shorter."""
         plain = self.as_written([(rule.sentence, grounding.sentence_of(rule)) for rule in rules])
         can_stay = self.wanted == WHERE_NEEDED and not plain.past()
         is_short = self.is_large and not plain.is_long() or not plain.is_large

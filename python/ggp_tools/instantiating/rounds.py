@@ -1,14 +1,14 @@
 """Unrolls cycles of sentences that depend on each other without negation, for example connected stones.
 
-Such sentences hold if they can be derived. Round 0 has those that can be derived without the others of the cycle, round n + 1 those that can be
-derived from those of round n. In a cycle of k sentences every derivable one is derived by round k - 1, because a derivation needs no sentence
-twice. The last round is the sentence itself, and sentences that no later round uses are left out. Two kinds of cycles need fewer rounds:
+Such sentences hold if they can be derived. Round 0 has the sentences that can be derived without the others of the cycle, and round n + 1 those that
+can be derived from the sentences of round n. In a cycle of k sentences, every derivable sentence is derived by round k - 1, because a derivation
+needs no sentence twice. The last round is the sentence itself, and sentences that no later round uses are left out. Two kinds of cycles need fewer
+rounds:
 
 - A transitive relation with two arguments that is derived only from two halves, `r a c` from `r a b` and `r b c`. Each round doubles the length of
   paths, so the logarithm of the number of terms is enough.
-- Sentences that each use one other, with the same further conditions for all others, for example that the own cell has a stone. A shortest path
-  has at most two sentences of each clique, because it could go directly from one to any other.
-"""
+- Sentences that each use one other sentence, with the same further conditions whichever it is, for example that there is a stone on the cell. A
+shortest path has at most two sentences of each clique, because it could go directly from any of them to any other. """
 
 from collections.abc import Iterator
 from operator import attrgetter, itemgetter
@@ -30,7 +30,7 @@ def asked(rule: Rule) -> list[Expression]:
 
 
 def circles(rules: list[Rule]) -> list[list[Expression]]:
-    """Returns the cycles: sets of sentences that depend on each other, or single ones that depend on themselves."""
+    """Returns the cycles: sets of sentences that depend on each other, or single sentences that depend on themselves."""
     graph = {}
     for rule in rules:
         graph.setdefault(rule.head, {}).update(dict.fromkeys(asked(rule)))
@@ -38,8 +38,8 @@ def circles(rules: list[Rule]) -> list[list[Expression]]:
 
 
 def is_halved(circle: list[Expression], rules_for: RulesFor) -> bool:
-    """Returns whether the cycle is one relation with two arguments that is derived only from its two halves, and from any two. If a rule has further
-    conditions, some halves have no rule, and the few rounds would miss paths that go around these."""
+    """Returns whether the cycle is one relation with two arguments that is derived only from two halves, and from any two halves. If a rule had
+    further conditions, some halves would have no rule, and the few rounds would miss paths that go around them."""
     if any(isinstance(atom, str) or len(atom) != 3 or atom[0] != circle[0][0] for atom in circle):
         return False
     members = set(circle)
@@ -83,8 +83,8 @@ def last_round(circle: list[Expression], rules_for: RulesFor) -> int:
 
 
 def steps_of(circle: list[Expression], rules_for: RulesFor) -> dict[Expression, set[Expression]]:
-    """Returns the sentences from which each can be derived, if each rule uses exactly one of the cycle and has the same further conditions, else
-    None."""
+    """Returns, for each sentence, those from which it can be derived, if each rule uses exactly one sentence of the cycle and the further conditions
+    are the same, or else None."""
     members, steps = set(circle), {}
     for atom in circle:
         conditions = {}
@@ -101,7 +101,7 @@ def steps_of(circle: list[Expression], rules_for: RulesFor) -> dict[Expression, 
 
 
 def cliques(circle: list[Expression], steps: dict[Expression, set[Expression]]) -> list[list[Expression]]:
-    """Splits the sentences into sets in which each can be derived from each other one."""
+    """Splits the sentences into sets in which each sentence can be derived from each other one."""
     left, cliques_found = dict.fromkeys(circle), []
     while left:
         clique = [next(iter(left))]
@@ -139,12 +139,12 @@ def alive(circle: list[Expression], rules_for: RulesFor, last: int) -> list[set[
 
 
 def inner(rule: Rule, members: set[Expression]) -> set[Expression]:
-    """Returns the sentences of its own cycle that a rule uses."""
+    """Returns the sentences of a cycle that a rule uses."""
     return {literal.atom for literal in rule.body if literal.atom in members}
 
 
 def layers(circle: list[Expression], rules_for: RulesFor, last: int, word: str) -> Iterator[Rule]:
-    """Yields the rules of all rounds of a cycle. The first rule of a sentence keeps the place of its first original rule, even if that one is left
+    """Yields the rules of all rounds of a cycle. The first rule of a sentence keeps the place of its first original rule, even if that rule is left
     out, because the order of legal moves depends on it."""
     members, lives = set(circle), alive(circle, rules_for, last)
 

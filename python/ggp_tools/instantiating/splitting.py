@@ -1,8 +1,8 @@
 """Splits rules that join independent parts before they are grounded.
 
 The number of instances of a rule is the product over all of its variables. A part of the body that shares only a few variables with the rest and the
-head becomes an auxiliary relation over these variables (`split1`, `split2` ..). The product becomes a sum. The meaning is the same, because the other
-variables of the part occur nowhere else. Relations that depend on themselves are not split."""
+head becomes an auxiliary relation over these variables (`split1`, `split2` ..). Then the product becomes a sum. The meaning is the same, because the
+other variables of the part occur nowhere else. Relations that depend on themselves are not split."""
 
 import itertools
 from collections.abc import Iterable, Iterator, Sequence
@@ -11,7 +11,7 @@ from typing import NamedTuple
 from ggp_tools.kif import Expression, atoms, fresh_before_digits, put, relation, variables
 from ggp_tools.gdl import Literal, Relations, Rule
 
-# Longer bodies have too many parts to try them all. Rules with fewer variables join nothing.
+# Longer bodies have too many parts to try all of them. Rules with fewer variables have no parts to split off.
 MOST_LITERALS, FEW_VARIABLES = 13, 3
 
 
@@ -88,7 +88,7 @@ def best_part(rule: Rule) -> Part | None:
 
 
 def part_of(inside: tuple[int, ...], head: frozenset[str], named: list[frozenset[str]], binding: list[frozenset[str]]) -> Part | None:
-    """Returns the part of these literals, or None if a variable would be unbound in it or in the rest, or if nothing is gained."""
+    """Returns the part with these literals, or None if a variable would be unbound in the part or in the rest, or if the split gains nothing."""
     outside = tuple(at for at in range(len(named)) if at not in inside)
     inner, outer = frozenset().union(*(named[at] for at in inside)), head.union(*(named[at] for at in outside))
     shared = inner & outer
