@@ -353,7 +353,7 @@ class Search:
         return Finding(part, words, ("undefined", key))
 
     def names_like(self, count: int | None) -> list[str]:
-        """Returns the names of relations with this number of arguments. They are empty after too many comparisons, which are slow."""
+        """Returns the names of relations with this number of arguments. The list is empty after too many comparisons, because these are slow."""
         names = [name for number in ((count,) if count else (None, 0)) for name, _ in self.names.get(number, ())]
         self.compared += len(names)
         return names if self.compared <= MOST_COMPARED else []

@@ -25,7 +25,8 @@ def index_of(rows: Iterable[Term], places: tuple[int, ...]) -> Rows:
 
 
 class Position:
-    """A state, with the moves of a turn if there are some. `rows` are its terms by functor, `fixed` the cached results that every state has."""
+    """A state, with the moves of a turn if they are known. `rows` are the terms of the state by functor, `fixed` the cached results that every state
+    has."""
 
     def __init__(self, state: State, pairs: Sequence[tuple[str, Term]], rows: dict[tuple[str, int], list[Term]], ask: Callable, fixed: dict) -> None:
         self.state, self.rows, self.ask, self.indexes = state, rows, ask, {}

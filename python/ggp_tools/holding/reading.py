@@ -62,7 +62,8 @@ def term_of(text: str) -> Term:
 
 
 def low(term: Term) -> Term:
-    """Returns a term. Refuses a term that is nested more deeply than the referee allows, for example one from infinitely many instances."""
+    """Returns the term, but refuses one that is nested more deeply than the referee allows, for example because a rule has infinitely many
+    instances."""
     if levels(term) > MOST_LEVELS:
         raise NotFollowed(f"a term is nested more than {MOST_LEVELS} lists deep")
     return term

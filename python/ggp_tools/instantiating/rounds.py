@@ -52,8 +52,8 @@ def is_halved(circle: list[Expression], rules_for: RulesFor) -> bool:
 
 
 def has_all_halves(circle: list[Expression], rules_for: RulesFor) -> bool:
-    """Returns whether each two sentences of the cycle that are halves of a third one have a rule that derives it, and the third one is in the cycle.
-    Otherwise some paths are not made of halves."""
+    """Returns whether, for any two sentences of the cycle that are the halves of a third one, the third one is in the cycle, and a rule derives it
+    from them. Otherwise some paths are not made of halves."""
     begun, bodies, members = grouped(circle, itemgetter(1)), {}, set(circle)
     for half in circle:
         for other in begun.get(half[2], ()):

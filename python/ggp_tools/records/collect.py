@@ -101,7 +101,7 @@ def lawful_ones(lines: Iterable[Judged]) -> Iterator[tuple[int, Judged]]:
 
 
 def facts_for(given: argparse.Namespace, referee: Referee, logs: MatchLogs) -> Facts:
-    """Returns the maker of facts. It has read everything that does not depend on a record."""
+    """Returns the object that makes facts, after it has read everything that does not depend on a record."""
     refereed_by = given.refereed_by or version_beside(given.rules)
     return Facts(referee.version(), refereed_by, description_sums(given.rules, given.descriptions), logs)
 

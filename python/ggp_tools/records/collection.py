@@ -1,5 +1,5 @@
-"""Reads files of records, finds the game of each record by its roles and its first state, and has the referee check it. Lines of call logs
-are skipped."""
+"""Reads record files, finds the game of each record by its roles and its first state, and has the referee check the record. Lines of call logs are
+skipped."""
 
 import collections
 import concurrent.futures
@@ -28,7 +28,7 @@ NO_GAME, NO_RECORD = "no game has its roles", "no record: "
 
 @dataclass(frozen=True, eq=False)
 class KnownGame:
-    """A game of the directory of rules. `name` is that of its file, `rules` are for the interpreter, `first` is its first state."""
+    """A game of the directory of rules. `name` is the name of the file, `rules` are the rules for the interpreter, and `first` is the first state."""
 
     name: str
     path: str
@@ -40,7 +40,7 @@ class KnownGame:
 
 @dataclass(frozen=True, eq=False)
 class Line:
-    """A line of a file of records, with its number, counted from 1. `said` is the error of a line that is not a JSON object."""
+    """A line of a record file, with its number, counted from 1. `said` is the error of a line that is not a JSON object."""
 
     file: str
     number: int
@@ -79,7 +79,7 @@ class Judged:
 
 
 def game_of(path: pathlib.Path) -> KnownGame:
-    """Reads a file of ground rules. Refuses rules that have variables, or no first state."""
+    """Reads a file of ground rules. Refuses rules that have variables, or that have no role."""
     if SURROGATE.search(str(path)):
         raise Refused("its name is not UTF-8")
     data = path.read_bytes()

@@ -41,7 +41,7 @@ def listed(texts: Sequence[str]) -> str:
 
 
 def end_words(phase: str, cause: str | None, names: Sequence[str]) -> str:
-    """Returns a phase with its cause, and the name of the role that the cause has by number."""
+    """Returns a phase with its cause, and the name of the role if the cause has the number of one."""
     number = (cause or "").partition(" ")[2]
     return f"phase {phase}, cause {cause or 'null'}" + (f" (the role {names[int(number)]})" if number else "")
 
@@ -148,7 +148,7 @@ class Replay(Match):
         return ("goals", f"A record of the phase {phase} {why}.", f"expected: {sides[0]}", f"found: {sides[1]}")
 
     def end_fault(self) -> Found | None:
-        """Compares phase and cause with those that follow from the marks and the last state, by the table in docs/RECORDS.md."""
+        """Compares the phase and the cause with those that follow from the marks and the last state, according to the table in docs/RECORDS.md."""
         for kind in self.marks:
             self.marks[kind] = {role: mark for role, mark in enumerate(self.given[f"{kind}Marks"]) if mark is not None}
         count, (phase, cause), recorded = len(self.marks["end"]), self.phase(), (self.given["phase"], self.given["cause"])
@@ -167,7 +167,7 @@ class Replay(Match):
 
 
 def explanation(word: str, game: Game, data: bytes) -> list[str]:
-    """Returns the lines that explain the referee's fault."""
+    """Returns the lines that explain the fault that the referee reports."""
     if word == "json":
         first, *more = json_lines(data)
         return [f"The text is not JSON: {first}.", *more]
@@ -188,7 +188,7 @@ def explanation(word: str, game: Game, data: bytes) -> list[str]:
 
 
 def judged(program: str, words: list[str], data: bytes, count: int = 1) -> list[str | None]:
-    """Returns the referee's fault of each record, or None if the record is lawful. None of the records belongs to a call log."""
+    """Returns, for each record, the fault that the referee reports, or None if the record is lawful. None of the records belongs to a call log."""
     try:
         run = subprocess.run([program, "verify", JSON, *words], input=data, capture_output=True)
     except (OSError, ValueError) as why:
@@ -200,7 +200,7 @@ def judged(program: str, words: list[str], data: bytes, count: int = 1) -> list[
 
 
 def read(name: str, most: int) -> bytes:
-    """Reads a file, up to one byte more than the referee accepts."""
+    """Reads a file, but at most one byte more than the referee accepts."""
     with opened(name) as file:
         return file.read(most + 1)
 

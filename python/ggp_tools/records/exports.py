@@ -1,4 +1,4 @@
-"""Writes records as pages with an index, as matches of ggp-base, each a JSON object in its own file, and as text similar to PGN: headers of each
+"""Writes records as pages with an index, as matches of ggp-base, each a JSON object in its own file, and as text similar to PGN: headers for each
 match, and a line for each turn. Times come from logs. examples/records/README.md describes the formats."""
 
 import hashlib
@@ -27,7 +27,7 @@ def file_name(number: int, match_id: str, ending: str) -> str:
 
 
 def index_row(judged: Judged, record: dict | None, name: str) -> dict[str, object]:
-    """Returns the row of a line. It links to the page of this name if the line has the shape of a record."""
+    """Returns the row for a line. The row links to the page with this name if the line has the shape of a record."""
     row = {"name": judged.line.match_id or f"line {judged.line.number}", "game": judged.game.name if judged.game else "", "page": ""}
     row |= {"phase": "", "turns": "", "verdict": judged.verdict, "is_lawful": judged.is_lawful}
     if record:
@@ -57,8 +57,8 @@ NO_PREVIEW, UNKNOWN = -1, 0
 
 
 def times_of(found: list[Beginning], turns: int) -> tuple[int, list[int]]:
-    """Returns when a match began and when each state was reached, in milliseconds since 1970. Times are unknown if the logs lack some, or have
-    several matches of this id."""
+    """Returns when a match began and when each state was reached, in milliseconds since 1970. Times are unknown if the logs lack some of them, or
+    have several matches with this id."""
     if len(found) != 1:
         return UNKNOWN, []
     times = [found[0].began or UNKNOWN, *(found[0].turns.get(turn, UNKNOWN) for turn in range(1, turns + 1))]

@@ -21,8 +21,8 @@ TWO_RECORDS, TWO_LOGS = "several matches have this id", "several matches of the 
 
 
 def description_sums(rules: str, descriptions: str | None) -> dict[str, str]:
-    """Returns the checksums of the descriptions that were grounded, by game: from the files in a directory, or else from the file next to the rules
-    that a competition has."""
+    """Returns the checksums of the descriptions that were grounded, by game: from the files in a directory, or else from the file that a competition
+    has next to its rules."""
     if descriptions is not None:
         return {file.stem: sum_of_file(file) for file in sorted(pathlib.Path(descriptions).iterdir()) if file.suffix == ".kif" and file.is_file()}
     path = pathlib.Path(rules, DESCRIPTIONS)
@@ -45,7 +45,7 @@ def broken_answers(exchanges: "Exchanges", whys: dict[tuple[int, int], str]) -> 
 
 
 class Exchanges:
-    """The messages of a match, as far as its record implies them: their texts, and which answers were broken."""
+    """The messages of a match, as far as they follow from its record: their texts, and which answers were broken."""
 
     def __init__(self, record: dict) -> None:
         self.record, self.players = record, record["players"]
@@ -66,7 +66,7 @@ class Exchanges:
         return 1 + self.asked[role] + len(self.ends)
 
     def has(self, role: int, number: int, kind: str, known: int) -> bool:
-        """Returns whether the match has this message, by its hash."""
+        """Returns whether the match has this message, judging by the message's hash."""
         if role >= len(self.players) or not 1 <= number <= self.last(role):
             return False
         if (kind == "START") != (number == 1) or (kind in self.ends) != (number == self.asked[role] + 2):
@@ -150,7 +150,7 @@ class Facts:
         }
 
     def without_log(self, data: bytes) -> bytes:
-        """Returns a line without the values from a log, if its id has several matches."""
+        """Returns a line without the values from a log if several matches have its id."""
         values = json.loads(data)
         if self.faults.get(values["id"]) != TWO_RECORDS:
             return data

@@ -10,9 +10,9 @@ from ggp_tools.kif import Expression, expressions, head_of, spelled
 USUAL_RECORD = 16 << 20
 # The longest call log that `replay` accepts.
 LONGEST_ACCOUNT = 256 << 20
-# The maximum number of turns. All answers of a player together may have this many bytes beyond 64 each, or beyond the longest legal move.
+# The maximum number of turns. In total, the answers of a player may have this many bytes beyond 64 for each answer, or beyond the longest legal move.
 MOST_TURNS, BUDGET, USUAL_ANSWER = 10_000, 1 << 20, 64
-# What is before and after the states of a record. No string contains these bytes, because quotes are escaped.
+# The bytes before and after the states of a record. No string contains these bytes, because quotes are escaped.
 STATES, AFTER_STATES = b'"states":[', b'],"strikes":'
 
 
@@ -31,7 +31,7 @@ def longest_record(rules: bytes) -> int:
     state = sum(text_length(term) for term in {head[1] for head in heads if head[0] in ("init", "next")})
     move = max((text_length(head[2]) for head in heads if head[0] == "legal"), default=0)
     roles = sum(head[0] == "role" for head in heads)
-    # Each byte of an answer may take two in a string, and an expression may get spaces next to parentheses.
+    # Each byte of an answer may take two bytes in a string, and an expression may get spaces next to parentheses.
     turn = state + roles * (move + 4 * max(move, USUAL_ANSWER))
     return USUAL_RECORD + (MOST_TURNS + 1) * turn + roles * 4 * BUDGET
 

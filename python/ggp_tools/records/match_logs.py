@@ -39,7 +39,7 @@ def message_sum(player: str, kind: str, message: str) -> int:
 
 
 class Beginning:
-    """A match in a log since it began. Each message takes five numbers in one array."""
+    """One run of a match in a log. Each message is stored as five numbers in one array."""
 
     def __init__(self) -> None:
         self.host: str | None = None
@@ -55,7 +55,7 @@ class Beginning:
         self.is_short, self.has_end = False, False
 
     def __eq__(self, other: object) -> bool:
-        """Returns whether the other one is a copy."""
+        """Returns whether the other object is a copy of this one."""
         return isinstance(other, Beginning) and (self.numbers, self.broken, self.times()) == (other.numbers, other.broken, other.times())
 
     def take(self, event: Event) -> None:
@@ -108,7 +108,7 @@ class Beginning:
 
 
 def beginnings(found: Iterable[Event]) -> Iterator[tuple[str, Beginning]]:
-    """Yields the matches of a log with their ids. If a match begins again before it is over, its earlier part is dropped."""
+    """Yields the matches of a log with their ids. If a match begins again before it is over, its earlier run is dropped."""
     open_matches: dict[str, tuple[Runs, Beginning]] = {}
     for event in found:
         if isinstance(event, Other):
@@ -131,7 +131,8 @@ def logged(run: Iterable[Event]) -> Beginning:
 
 
 class MatchLogs:
-    """The matches of some logs. A match that is not over counts only if no other with its id is over. `others` counts lines that are not events."""
+    """The matches of some logs. A match that is not over counts only if no other match with its id is over. `others` counts lines that are not
+    events."""
 
     def __init__(self, paths: Iterable[str]) -> None:
         self.found: dict[str, tuple[list[Beginning], list[Beginning]]] = {}
@@ -151,6 +152,6 @@ class MatchLogs:
                 self.others += 1
 
     def of(self, match_id: str) -> list[Beginning]:
-        """Returns the match with this id. There are several if it is not known which one is meant."""
+        """Returns the match with this id, or several matches if it is not known which one is meant."""
         unfinished, over = self.found.get(match_id, ([], []))
         return over or unfinished

@@ -1,4 +1,4 @@
-"""Parses match records, checks the shape of each key, which docs/RECORDS.md defines, and explains why a text is not a record."""
+"""Parses match records, checks that each key has the shape that docs/RECORDS.md defines, and explains why a text is not a record."""
 
 import hashlib
 import json
@@ -17,11 +17,12 @@ COMPLETED, ABORTED = ("stopping", "finished"), ("aborting", "aborted")
 PHASES = ("starting", "playing", *COMPLETED, *ABORTED)
 ERRORS = ("", "TO", "CE", "RT", "IL ?")
 CAUSE = re.compile(r"(asked|toolong|allretired)|(nolegal|nogoal) (0|[1-9][0-9]?)")
-# The referee uses the same format. A reply never ends like a record, so a record that was appended to a cut line does not match.
+# The referee uses the same format. A reply never ends as a record does, so a line that was cut off, and to which a record was appended, does not
+# match.
 ACCOUNT_LINE = re.compile(rb"[0-9]+\t(?:open|strict|next|submit|miss|query|abort)(?: [^\t]*)?\t[^\t]*[0-9A-Za-z)]")
 LONGEST_EXPRESSION, MOST_OF_VALUE, MOST_OF_ROLES = 8_192, 80, 1_000
-# The JSON parser is recursive, and more than ROOM calls overflow its stack. Records are nested three lists deep. The limit applies to all
-# threads, so it is lowered only if a command has raised it above ROOM; such commands have no threads.
+# The JSON parser is recursive, and more than ROOM calls overflow its stack. Records are nested three lists deep. The recursion limit applies to all
+# threads, so it is lowered only if a command has raised it above ROOM; such commands have no other threads.
 ROOM, MOST_CALLS = 20_000, 1_000
 
 # ---- JSON
@@ -31,7 +32,7 @@ FOLLOWS = re.compile(r"\{|[0-9]+\t[^\t\n]+\t")
 # The beginning of each record, and the end of one that was cut within a word or a number.
 BEGIN = '{"cause":'
 CUT_WORD = re.compile(r"-|t(ru?)?|f(a(ls?)?)?|n(ul?)?")
-# The messages of Python's JSON parser in our words.
+# The messages of Python's JSON parser, and our messages for them.
 JSON_WORDS = {
     "Expecting value": "a value is missing", "Extra data": "more follows the value", "Unterminated string starting at": "a text has no end",
     "Expecting property name enclosed in double quotes": "a key is missing", "Expecting ':' delimiter": "`:` is missing",

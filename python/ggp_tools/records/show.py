@@ -34,10 +34,10 @@ LONGEST_AXIS = 32
 # A page that would have more boards lists terms instead, because a board is about a hundred times as long as its terms.
 MOST_DRAWN = 32_768
 # A single state is drawn from at most this many terms: its own, those of earlier states, and those of the rules. Its boards have at most this many
-# places and names together. This bounds the processor time of a drawing to about half a second. A larger state is listed as text.
+# places and names together. This limits the processor time of a drawing to about half a second. A larger state is listed as text.
 MOST_READ, MOST_PLACES = 16_384, 4_096
-# A part of the page of a long match draws states with at most this many terms together, which takes about as long. The terms have at most this many
-# letters on average.
+# A part of the page of a long match draws states with at most this many terms together, which takes about as long. On average, these terms have at
+# most this many letters.
 MOST_OF_PART, LETTERS = 16_384, 64
 # The sizes of the caches of terms, of cells and of openings of boards.
 MOST_TERMS, MOST_CELLS, MOST_BOARDS = 65_536, 16_384, 64
@@ -68,7 +68,7 @@ ERRORS = {
 # Terms of a state that name the role whose turn it is.
 TURN = re.compile(r"\((?:control|turn|on-turn) ([^()]*)\)")
 
-# What a page has of a state that is listed as text, except its terms.
+# The values of a page for a state that is listed as text, except the terms of the state.
 LISTED = {"boards": "", "before": None, "gone": [], "is_empty": False, "drawn": [], "more": 0}
 
 # The labels at each place of a board.
@@ -104,7 +104,7 @@ def record_of(file: BinaryIO) -> bytes:
 
 @functools.lru_cache(MOST_TERMS)
 def words_of(term: str) -> list[str]:
-    """Returns the members of a term that is a list of atoms, else an empty list."""
+    """Returns the members of a term if it is a list of atoms, or else an empty list."""
     is_flat = term.startswith("(") and term.endswith(")") and not re.search(r"[()]", term[1:-1])
     return term[1:-1].split(" ") if is_flat else []
 
@@ -138,9 +138,9 @@ def is_pairing(states: list[list[list[str]]]) -> bool:
 
 @dataclass
 class Board:
-    """Terms that name places. `forms` has, for each relation and its number of members, the index of the two places and the indices of the label: the
-    other arguments, or the relation if there are none. `lean` is 0, or for a board of hexagons 1 or -1: the number of half places by which each row
-    is shifted to the right of the one below it."""
+    """Terms that name places. `forms` has, for each relation with its number of members, the index of the first of the two members that name the
+    place, and the indices of the label: those of the other arguments, or that of the relation if there are none. `lean` is 0, or for a board of
+    hexagons 1 or -1: the number of half places by which each row is shifted to the right of the one below it."""
 
     across: list
     up: list
@@ -161,7 +161,7 @@ class Board:
         return set(itertools.product(range(1, len(self.across) + 1), range(1, len(self.up) + 1)))
 
     def size(self, is_played: bool) -> int:
-        """Returns how many places, and names of columns and rows, are drawn at most."""
+        """Returns the greatest number of places, and names of columns and rows, that are drawn."""
         return len(self.across) + len(self.up) + (len(self.across) * len(self.up) if is_played else len(self.places))
 
     def place(self, words: tuple[str, ...]) -> tuple[int, int, str]:
@@ -169,7 +169,7 @@ class Board:
         return self.across.index(words[at]) + 1, self.up.index(words[at + 1]) + 1, " ".join(words[place] for place in labels)
 
     def marks(self, named: "Named") -> dict[str, Mark]:
-        """Returns the mark of each label, also of those in the rules, so that a label looks the same in all states."""
+        """Returns the mark of each label, including the labels in the rules, so that a label looks the same in all states."""
         own = ([words[at] for at in places] for group, (_, places) in self.forms.items() for words in named.terms.get(group, ()))
         labels = {" ".join(label) for label in own if not any(map(is_variable, label))}
         return marks_of(map(visible, labels.union(label for _, _, label in self.known.values())))
@@ -187,7 +187,7 @@ def lean_of(places: set[Place]) -> int:
 
 
 def places_of(move: str, board: Board) -> list[Place]:
-    """Returns the places of a board that a move names by two consecutive arguments, in order."""
+    """Returns, in order, the places of a board that a move names with two consecutive arguments."""
     words, places, index = words_of(move), [], 1
     while index + 1 < len(words):
         if words[index] in board.across and words[index + 1] in board.up:
@@ -199,7 +199,7 @@ def places_of(move: str, board: Board) -> list[Place]:
 
 
 def members_of(states: Iterable[list[list[str]]]) -> list[set[str]]:
-    """Returns the words of each member of a relation in some states."""
+    """Returns the words that each member of a relation has in these states."""
     return list(map(set, zip(*(words for state in states for words in state))))
 
 
@@ -210,7 +210,7 @@ def form_of(words_by_state: list[list[list[str]]], members: list[set[str]]) -> t
     for at, labels in {3: [(1, [0])], 4: [(1, [3]), (2, [1])], 5: [(1, [3, 4])]}.get(len(members), []):
         if axis_of(members[at]) and axis_of(members[at + 1]):
             if members[0] & PIECES:
-                # In (king white X Y) and (rook X Y) the relation is the piece, and there may be only one of it.
+                # In (king white X Y) and (rook X Y), the relation is the piece, and there may be only one such piece.
                 return at, sorted({0, *labels})
             is_function = is_pairing(words_by_state) if len(members) == 3 else max(map(len, words_by_state)) < 2
             return None if is_function else (at, labels)
@@ -244,8 +244,8 @@ def named_in(rules: bytes, is_hex: bool) -> Named:
 
 
 def boards_of(states: Iterable[list[str]], named: Named = Named()) -> list[Board]:
-    """Returns the boards of a match: one for each relation like (cell X Y V), and one for all others with the same kinds of places. A board also has
-    the places that the rules name, and may be empty."""
+    """Returns the boards of a match: one for each relation such as (cell X Y V), and one for all other relations with the same kinds of places. A
+    board also has the places that the rules name, and may be empty."""
     terms: dict[Group, dict[int, list[list[str]]]] = {}
     for at, state in enumerate(states):
         for words in filter(None, map(words_of, state)):
@@ -306,7 +306,7 @@ def board_places(board: Board, state: list[str]) -> Places:
 
 
 def ground_of(board: Board, places: Places) -> str | None:
-    """Returns the label of more than half of all places, if every place has one: an empty cell."""
+    """Returns the label that more than half of all places have, if every place has a label: that of an empty cell."""
     labels = [labels[0] for labels in places.values()]
     if len(labels) < len(board.across) * len(board.up):
         return None
@@ -350,8 +350,8 @@ def board_page(
 def states_of_page(
     states: list[list[str]], roles: Sequence[str], named: Named = Named(), since: int = 0, most: float = math.inf, is_played: bool = False
 ) -> Iterator[dict[str, Any]]:
-    """Yields each state from a number on: its boards, unless they have more than `most` places together, and the role whose turn it is, if the state
-    has it. Also the terms that no board shows: current, previous and removed ones."""
+    """Yields each state from the number `since` on: its boards, unless they have more than `most` places in total, the role whose turn it is, if the
+    state names it, and the terms that no board shows: the current, previous and removed ones."""
     boards = boards_of(states, named)
     is_drawn = len(boards) * (len(states) - since) <= MOST_DRAWN and sum(board.size(is_played) for board in boards) <= most
     boards = boards if is_drawn else []
@@ -374,7 +374,7 @@ def states_of_page(
 
 
 def quick(named: Named) -> Named:
-    """Returns names without those of rules that have too many."""
+    """Returns the names without those in the rules, if the rules have too many."""
     return Named(is_hex=named.is_hex) if sum(map(len, named.terms.values())) > MOST_READ else named
 
 
@@ -387,7 +387,7 @@ def last_state(states: list[list[str]], roles: Sequence[str], named: Named, is_p
 
 
 def named_roles(state: list[str], roles: Sequence[str]) -> list[tuple[str, str]]:
-    """Returns the roles whose turn it is by the terms of a state, each with its term, such as (control ROLE)."""
+    """Returns the roles whose turn it is according to the terms of a state, each with its term, such as (control ROLE)."""
     return [(word, term) for term in state if (found := TURN.fullmatch(term)) for word in found[1].split() if word in roles]
 
 
@@ -398,7 +398,7 @@ def mover_of(state: list[str], roles: Sequence[str]) -> int | None:
 
 
 def winner_words(players: Sequence[str], worths: Sequence[int]) -> str:
-    """Returns who won a match, or who drew, by the result of each player. It is empty for one player, and if no result is 0 or more."""
+    """Returns who won a match, or who drew, from the result of each player. The text is empty for one player, and if no result is 0 or more."""
     best = max(worths, default=-1)
     names = [player for player, worth in zip(players, worths) if worth == best >= 0]
     return f"{' and '.join(names)} {'won' if len(names) == 1 else 'drew'}." if names and len(players) > 1 else ""
@@ -415,7 +415,7 @@ def turn_of_page(moves: Sequence[str], errors: Sequence[str], mover: int | None,
 
 
 def weight_of(state: list[str]) -> int:
-    """Returns how many terms of a state are drawn. Long ones count more."""
+    """Returns how many terms of a state are drawn. Long terms count more."""
     if sum(map(len, state)) <= LETTERS * len(state):
         return len(state)
     return max(len(state), sum(min(len(term), MOST_SHOWN) for term in state) // LETTERS)
@@ -433,7 +433,7 @@ def states_of_part(states: list[list[str]], part: range, roles: Sequence[str], n
 
 
 def parts_of(states: list[list[str]]) -> list[range]:
-    """Returns the parts of a long match: for each part the numbers of its states. It has at most MOST_OF_PART terms, or only one state."""
+    """Returns the parts of a long match: for each part, the numbers of its states. A part has at most MOST_OF_PART terms, or only one state."""
     starts, size = [0], 0
     for number, own in enumerate(map(weight_of, states)):
         size += own
@@ -445,8 +445,8 @@ def parts_of(states: list[list[str]]) -> list[range]:
 
 @dataclass(frozen=True)
 class Frame:
-    """How the page of a match is made: its head as HTML, the names in the rules, the winner if the goals do not determine it, and the part that is
-    shown, or all parts."""
+    """How the page of a match is made: the head of the page as HTML, the names in the rules, the winner if the goals do not determine the winner, and
+    the part that is shown, or all parts."""
 
     head: "Markup | str" = ""
     named: Named = Named()

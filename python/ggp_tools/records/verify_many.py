@@ -8,9 +8,9 @@ messages on standard error and the exit status are the same as those of one proc
 three differences: verdicts are written piece by piece, reads are not counted, and the file of rules cannot be a pipe, because each process
 reads it.
 
-N is at most 1,024. At most N + 2 pieces with their verdicts are in memory. Errors of this command begin with `ggp-verify-records: `. As with
-`--why`, exit status 1 means that a record is not lawful, and every other error has 2. If a signal kills a process, the status is 128 plus the
-number of the signal. With `--json` among OPTIONS the verdicts are JSON.
+N is at most 1,024. At most N + 2 pieces and their verdicts are in memory. Errors of this command begin with `ggp-verify-records: `. As with `--why`,
+exit status 1 means that a record is not lawful, and every other error has 2. If a signal kills a process, the status is 128 plus the number of the
+signal. With `--json` among OPTIONS the verdicts are JSON.
 
 The command needs only Python 3.11 or later.
 """
