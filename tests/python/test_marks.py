@@ -104,3 +104,8 @@ class Boards(unittest.TestCase):
         found = self.cells("(at red 1 1)", "(at blue 2 2)", "(wall 1 1)", "(wall 1 2)", "(wall 2 2)")
         self.assertEqual(found[0], ("", "1 1: red, wall", True, f"{STONE}wall"))
         self.assertEqual(found[1], ("", "", False, "wall"))
+
+    def test_words_are_text(self):
+        found = self.cells("(cell 1 1 <img)", '(cell 2 2 "><script>alert)')
+        self.assertEqual([text for _, _, _, text in found], ["<img", '"><\u2026rt'])
+        self.assertEqual(found[1][1], '2 2: "><script>alert')
