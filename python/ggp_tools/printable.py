@@ -1,4 +1,4 @@
-"""Makes text from other programs and files safe for terminals and our own files: printable ASCII of limited length."""
+"""Makes text from other programs and files safe for terminals and for the files that commands write: printable ASCII of limited length."""
 
 import re
 

@@ -223,7 +223,7 @@ def check():
     files = sorted(GAMES.glob("*.kif"))
     for rules in files:
         if rules.with_suffix(".out").read_text() != output(rules.read_text(), rules.with_suffix(".script").read_text()):
-            sys.exit(f"{rules.stem}.out is not what it must be: run ../../tests/oracle/ground_games.py {rules.stem} in examples/games")
+            sys.exit(f"{rules.stem}.out is out of date: run ../../tests/oracle/ground_games.py {rules.stem} in examples/games")
     if not files:
         sys.exit("there is no game")
 

@@ -346,7 +346,7 @@ def main():
         if not given.check:
             written.write_text(said)
         elif not written.exists() or written.read_text() != said:
-            sys.exit(f"{written.name} is not what it must be: run tests/oracle/records.py")
+            sys.exit(f"{written.name} is out of date: run tests/oracle/records.py")
 
 
 if __name__ == "__main__":

@@ -56,7 +56,7 @@ def plan_in(room: str, names: list[str], rounds: int = 1, head: str = "", rules:
 
 
 def line(match: object, role: int, number: int, message: str, answer: str | Missed, milliseconds: int = 5, time: int | None = None) -> str:
-    """Returns the log line of a message, whose text determines the kind."""
+    """Returns the log line of a message. The text of the message determines its kind."""
     error, _, reason = answer.removesuffix(")").partition(" (") if isinstance(answer, Missed) else (None, "", None)
     kind = message.partition(" ")[0].strip("()")
     turns = number - 2 if kind == "PLAY" else None
