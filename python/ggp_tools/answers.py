@@ -19,7 +19,7 @@ MOST_TOLD, MOST_RULES = 20, 1 << 20
 
 
 def no_expression(answer: str) -> str:
-    """Returns why an answer is not one expression, as far as its text in a log shows. A log has `?` for each byte that is not visible."""
+    """Returns why an answer is not one expression, if its text in a log shows why. A log has `?` for each byte that is not visible."""
     if len(answer) == SHOWN + len(MORE) and answer.endswith(MORE):
         return "the log has only the beginning of such a long answer"
     try:

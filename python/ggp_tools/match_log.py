@@ -214,7 +214,7 @@ def last_run(log: BinaryIO, match: str) -> list[Event]:
 
 
 def published(log: bytes, match: str) -> bytes:
-    """Returns the part of a log that an archive has of a match."""
+    """Returns the part of a match's log that is published in an archive."""
     return b"".join(map(line_of, last_run(io.BytesIO(log), match)))
 
 

@@ -13,8 +13,8 @@ THIS_COMPUTER = "this computer"
 
 
 def client_of(address: str) -> str:
-    """Returns the client of an address. A customer with IPv6 may have all addresses with the same first 48 bits. An IPv4 address may be in IPv6
-    notation. Raises ValueError if the text is not an address."""
+    """Returns the client that an address belongs to. With IPv6, one customer may have all addresses with the same first 48 bits. An IPv4 address may
+    be in IPv6 notation. Raises ValueError if the text is not an address."""
     found = ipaddress.ip_address(address.partition("%")[0])
     found = getattr(found, "ipv4_mapped", None) or found
     if found.is_loopback:

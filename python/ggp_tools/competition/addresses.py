@@ -70,7 +70,7 @@ def refusal(place: Place) -> str:
 
 
 def places_now(competition: Competition) -> dict[str, list[Place]]:
-    """Returns the current addresses of each player by its name. A player that the competition starts has none yet."""
+    """Returns the current addresses of each player, by name. A player that the competition starts has none yet."""
     hosts = {player.name: player.address.rpartition(":") for player in competition.players if not player.command}
     addresses = looked_up(host for host, _, _ in hosts.values())
     return {name: [(address, int(port)) for address in dict.fromkeys(addresses[host])] for name, (host, _, port) in hosts.items()}

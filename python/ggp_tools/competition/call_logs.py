@@ -22,15 +22,17 @@ if TYPE_CHECKING:
 OPENING = re.compile(rb"0\t(?:open|(strict)) ([^ \t]+) \d+ (\d{1,5}) (\d{1,5})([^\t]*)\topened")
 NEXT = re.compile(rb"(\d+)\tnext ([^ \t]+) (\d+)\t(?:owe (\d+) ([^ \t]+) ?([^\t]*)|(hold \d+|over))")
 ANSWER = re.compile(rb"(\d+)\t(submit|miss) ([^ \t]+) (\d+) (\d+)(?: ([^\t]*))?\ttaken")
-# A role that waits in a round asks every two seconds, and more often at first and when another role wakes it, at most twice. So `hold` comes less than
-# once for each second of the clock, twice for each role, and this often, which allows for ten minutes in which the computer holds the referee up.
+# A role that waits in a round asks every two seconds, more often at first, and up to twice more for each role that wakes it. So the number of its
+# `hold` replies is less than the seconds of the clock, plus twice the number of roles, plus this number, which allows for ten minutes in which the
+# computer holds the referee up.
 MOST_HOLDS = 300
-# The history of the referee's desk has at most so many calls.
+# The history of the referee's desk has at most this many calls.
 MOST_CALLS = 1_000_000
 # The match of any call.
 MATCH = re.compile(rb"\d+\t[a-z]+ ([^ \t]+)[ \t]")
 ESCAPED = re.compile(r"\\x([0-9a-f]{2})")
-# The parts of the referee's reasons for an error (docs/ERRORS.md), with N for numbers. The kind of a failed read is another part, of one word.
+# The parts of the referee's reasons for an error (docs/ERRORS.md), with N for numbers. After a failed read, its kind follows as another part, which
+# is one word.
 REASONS = {
     *("the host has no address", "no connection", "no answer in time", "the answers of the match are too long", "a write failed", "a read failed"),
     *("the head is not valid HTTP", "the status is not N", "the status is N, not N", "the status is N, which announces an answer and is none"),
@@ -69,7 +71,7 @@ class Asked:
         return match == self.match and int(line) == int(role) + 1 and role not in self.over
 
     def may_hold(self, role: bytes, hold: bytes) -> bool:
-        """Counts that a role must wait, and returns whether a referee lets it ask so often in this round."""
+        """Counts that a role must wait, and returns whether a referee lets it ask this often in this round."""
         before, count = self.holds.get(role, (hold, 0))
         self.holds[role] = hold, count + 1 if before == hold else 1
         return self.holds[role][1] <= MOST_HOLDS + self.clocks[hold != b"hold 0"] + 2 * self.roles
@@ -115,7 +117,7 @@ def fault_of_account(account: bytes) -> str | None:
 
 
 class Exchange(NamedTuple):
-    """A message and the answer to it, or the error, by a call log, which does not have the description in START."""
+    """A message and the answer to it, or the error, according to a call log, which does not have the description in START."""
 
     kind: str
     round: int | None
@@ -157,7 +159,7 @@ def exchanges(match: "Match", roles: Sequence[str], account: bytes) -> list[list
 
 
 def unpublished(log: bytes, run: Sequence[Event]) -> str | None:
-    """Returns which line of a match log `publish` leaves out or writes in another way, or None."""
+    """Returns an error about the first line of a match log that `publish` would leave out or write differently, or None."""
     lines = itertools.zip_longest(io.BytesIO(log), map(line_of, run), fillvalue=b"")
     number, line = next(((number, given) for number, (given, kept) in enumerate(lines, 1) if given != kept), (0, b""))
     text = message_of(line.decode("ascii", "replace").rstrip())
@@ -165,7 +167,7 @@ def unpublished(log: bytes, run: Sequence[Event]) -> str | None:
 
 
 def has_sound_reason(message: Message) -> bool:
-    """Returns whether only an error has a reason, and only one that the referee gives."""
+    """Returns whether a message has a reason only if it has an error, and only a reason that the referee gives."""
     parts = NUMBER.sub("N", message.reason).split(": ") if message.reason is not None else []
     return not parts or message.error is not None and all(part in REASONS or KIND.fullmatch(part) for part in parts)
 
@@ -182,7 +184,7 @@ def is_confirmed(match: "Match", event: Event, asked: list[list[Exchange]], last
 
 
 def fault_of_run(match: "Match", roles: Sequence[str], run: Sequence[Event], account: bytes) -> str | None:
-    """Returns which line of a match log its call log does not confirm, or None."""
+    """Returns an error about the first line of a match log that the match's call log does not confirm, or None."""
     asked, last, has_end = exchanges(match, roles, account), [0] * len(roles), False
     for number, event in enumerate(run, 1):
         is_second = has_end and isinstance(event, End)

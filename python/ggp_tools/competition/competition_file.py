@@ -133,7 +133,7 @@ class Section:
                 self.mistake(key, f"this key is now {RENAMED[key]}" if RENAMED.get(key) in keys else f"no such key; expected one of {', '.join(keys)}")
 
     def value(self, key: str, kind: type, what: str, default: Any) -> Any:
-        """Returns the value of the key, or the default if it is missing or of another kind. Without a default the key must exist."""
+        """Returns the value of the key, or the default if it is missing or of another kind. If there is no default, the key must exist."""
         if key not in self.table:
             if default is None:
                 self.mistake(key, "the key is missing")
@@ -341,7 +341,7 @@ class Launcher:
 
 @dataclass(frozen=True)
 class Faults:
-    """A player with `replaced` replaced moves, in turns in which it had a choice, has lost the match. With 0 there is no such limit."""
+    """A player with `replaced` replaced moves, in turns in which it had a choice, has lost the match. If it is 0, there is no such limit."""
 
     replaced: int = read_by(Section.number, 1, MOST_TURNS)
 

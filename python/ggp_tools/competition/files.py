@@ -134,7 +134,7 @@ def is_being_written(path: pathlib.Path) -> bool:
 
 
 def drop_unfinished(folder: pathlib.Path) -> None:
-    """Deletes unfinished files of ended processes in a directory. This process must not be writing there."""
+    """Deletes unfinished files of ended processes in a directory. This process must not be writing files in it."""
     for file in folder.glob(f"{UNFINISHED}*"):
         if not is_being_written(file):
             file.unlink(missing_ok=True)
@@ -241,7 +241,7 @@ class Folder:
             return b"", False
         with opened_file(self.log(match)) as file:
             if is_cut := (size := os.fstat(file.fileno()).st_size) > most:
-                # If the byte before the part is not the end of a line, the part begins within a line, which is left out.
+                # If the byte before the part is not the end of a line, the part begins within a line, and this line is left out.
                 file.seek(size - most - 1)
                 file.readline(most)
             return file.read(most), is_cut

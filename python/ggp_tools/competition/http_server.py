@@ -23,7 +23,8 @@ from ggp_tools.human.server import is_own_name
 from ggp_tools.visitors import THIS_COMPUTER, Visitors, client_of, oldest_of_most
 
 Value = TypeVar("Value")
-# The directory is read every INTERVAL seconds. A page without changes gets a row every ALIVE seconds, which shows whether the visitor is still there.
+# The directory is read every INTERVAL seconds. If a page has no changes, its visitor is sent a row every ALIVE seconds, to detect when the visitor
+# has left.
 INTERVAL, ALIVE = 1.0, 10.0
 # The head of a request must arrive within HEAD seconds and have at most LONGEST_HEAD bytes. The visitor must accept data within PATIENCE seconds.
 HEAD, LONGEST_HEAD, PATIENCE = 5, 16_384, 20
@@ -95,7 +96,8 @@ class Connection(web.RequestHandler):
         self.clock.cancel()
 
     def is_served(self, forwarded: Sequence[str]) -> bool:
-        """Returns whether the client may have this connection. If a proxy on this computer sends it, the last address in these headers is the client."""
+        """Returns whether the client may have this connection. If it comes from a proxy on this computer, the client is the last address in these
+        headers."""
         if self.client == THIS_COMPUTER and forwarded:
             self.visitors.go(self)
             with contextlib.suppress(ValueError):
@@ -211,20 +213,20 @@ class Server:
             return await self.send(request, HTTPStatus.INTERNAL_SERVER_ERROR)
 
     def note_answer(self, connection: Connection, answer: bytes) -> None:
-        """Notes the answer that is being sent. If all answers are too long together, this ends connections of the client with most of these bytes."""
+        """Notes the answer that is being sent. If all answers are too long in total, this ends connections of the client with the most bytes."""
         connection.answer = answer
         while sum(map(len, {id(other.answer): other.answer for other in self.visitors.connections}.values())) > MOST_SENT:
             answered = [other for other in self.visitors.connections if other.answer]
             oldest_of_most(answered, lambda other: len(other.answer)).end()
 
     def headers_of(self, request: web.BaseRequest, kind: str) -> dict[str, str]:
-        """Returns the headers of an answer. Only pages of `origins` may read it, besides its own."""
+        """Returns the headers of an answer. Besides the server's own pages, only pages of `origins` may read it."""
         origin = request.headers.get("Origin")
         known = {"Access-Control-Allow-Origin": origin} if origin in self.origins else {}
         return {**self.headers, **known, "Vary": "Origin", "Content-Type": f"{kind}; charset=utf-8"}
 
     async def send(self, request: web.BaseRequest, status: HTTPStatus, data: bytes | None = None) -> web.StreamResponse:
-        """Sends the data, or the text of the status without data."""
+        """Sends the data or, if there is none, the text of the status."""
         path = request.raw_path.removeprefix(self.base)
         kind = kind_of(path)
         if data is None:

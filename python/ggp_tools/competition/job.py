@@ -179,7 +179,7 @@ def main() -> int:
         if status is not None:
             job.say(f"status {status}")
     except OSError as why:
-        # The program can't be run, or nobody reads the output any more.
+        # The program can't be run, or the output is no longer read.
         if not job.process:
             os.write(2, f"{why.filename}: {why.strerror or why}\n".encode("ascii", "replace"))
     finally:

@@ -1,8 +1,9 @@
 """Reads the state of the matches from the directory of a competition: which are open, whose answers they wait for, and which are over. It writes
 nothing, and starts only the referee's desk.
 
-The players of an open match can read the pages too. So the pages show only what follows from finished rounds and from the clock of this computer.
-A round is START, a turn, or the end. It is finished once all of its roles have answered or were replaced."""
+The players of an open match can read the pages too. So the pages show only what follows from finished rounds and from the clock of this computer,
+with one exception: in the second half of the clock of an open round, they also name players that have not answered. A round is START, a turn, or the
+end. It is finished once all of its roles have answered or were replaced."""
 
 import errno
 import functools
@@ -35,14 +36,15 @@ from ggp_tools.referee import Referee
 # Listing all records takes at most a tenth of the time, and one look reads them for READING seconds. The record of a match that was open is read at
 # once.
 SHARE, READING = 10, 1.0
-# The system lists many locks in pieces, and may leave one out while others go. So a lock must be missing in this many lists.
+# The system lists many locks in pieces, and may leave one out while others are released. So a lock counts as released only if it is missing from this
+# many lists.
 LOOKS = 5
 # The board of a match stays for this many seconds after its end.
 STAYS = 60
-# The stage of a match whose directory has only the names of its players: they get ABORT for a run that was ended.
+# The stage of a match whose directory has only the names of its players: they must still be sent ABORT for a run that was ended.
 WAITING = "waiting"
 FAULT = "these pages may show wrong data of this match because of an error in ggp_competition: {!r}"
-# The rows of `play.log` by which a player is restarted, a match is given up, or a run begins.
+# The rows of `play.log` about a player that was restarted, a match that was given up, and a run that began.
 RESTARTED = re.compile(r"restart (\S+) (\S+): .*")
 GIVEN_UP = re.compile(rf"(?:no record|missing) (\S+): (?!{NOT_BEGUN}$)(.*)")
 BEGUN = re.compile("play [0-9,]+ match(es)?")
@@ -65,7 +67,7 @@ def clock() -> float:
 
 
 class Extent(NamedTuple):
-    """The size of a growing file. With a delay also its number and its first bytes, because another file may replace it."""
+    """The size of a growing file. With a delay, also the number and the first bytes of the file, because another file may replace it."""
 
     size: int
     number: int = 0
@@ -73,14 +75,14 @@ class Extent(NamedTuple):
 
 
 class Room(NamedTuple):
-    """The stage and the log of an open match, by the files of its directory."""
+    """The stage and the log of an open match, from the files in its directory."""
 
     stage: str
     log: Extent
 
 
 class Sight(NamedTuple):
-    """The directory at a moment of the clock: the open matches, the journal, and whether `play` was running."""
+    """The directory at one time of the clock: the open matches, the journal, and whether `play` was running."""
 
     moment: float
     rooms: dict[str, Room]
@@ -89,7 +91,8 @@ class Sight(NamedTuple):
 
 
 class Delay:
-    """Returns the directory as it was this many seconds ago, by the clock of this computer: the times of files may be wrong."""
+    """Remembers the directory, and returns it as it was this many seconds ago. This depends on the clock of this computer, because the times of files
+    may be wrong."""
 
     def __init__(self, seconds: float = 0.0) -> None:
         self.seconds = seconds
@@ -151,7 +154,7 @@ class Seen:
 
     def __post_init__(self) -> None:
         self.runs = Runs()
-        # The messages of a run whose begin the log lacks, until its START is finished.
+        # The messages of a run whose beginning the log lacks, until the START of the run is finished.
         self.coming: list[Message] | None = None
         self.forget()
 
@@ -176,7 +179,7 @@ class Seen:
         return self.board.position.round()
 
     def open_round(self) -> int | None:
-        """Returns the round that was open when the log was read last, or None if lines or answers are still to be read."""
+        """Returns the round that was open when the log was last read, or None if lines or answers are still to be read."""
         return None if self.tail.is_behind or self.board.is_known_further() else self.turn()
 
     def is_over(self) -> bool:
@@ -188,7 +191,7 @@ class Seen:
         return self.is_over() or self.board.position.is_ending()
 
     def awaited(self) -> list[int]:
-        """Returns the roles that have not answered in the open round; only the one whose turn it is, if the state says so."""
+        """Returns the roles that have not answered in the open round, or only the role whose turn it is, if it is among them."""
         position = self.board.position
         if self.is_ending():
             return [role for role in range(len(self.match.players)) if role not in self.ends]
@@ -196,7 +199,8 @@ class Seen:
         return [position.mover()] if position.mover() in found else found
 
     def named(self) -> list[int] | None:
-        """Returns the awaited roles that are shown: before half of the time at most the one whose turn it is, which follows from the state."""
+        """Returns the awaited roles that are shown: in the first half of the clock, at most the role whose turn it is, which follows from the
+        state."""
         if self.is_late:
             return self.awaited()
         mover = None if self.is_ending() else self.board.position.mover()
@@ -284,7 +288,7 @@ class News:
 
 
 def stage_of(names: set[str]) -> str:
-    """Returns the stage of a match by the files of its directory. It waits if they are left of an earlier run."""
+    """Returns the stage of a match, from the names of the files in its directory. If they were left by an earlier run, the match is waiting."""
     return next((stage for stage in reversed(STAGES) if stage in names), WAITING)
 
 
@@ -303,7 +307,7 @@ def extent_of(path: pathlib.Path, is_delayed: bool) -> Extent:
 
 
 def identity_of(path: pathlib.Path) -> Identity:
-    """Returns number, size and time of a file."""
+    """Returns the number, size and time of a file."""
     try:
         found = os.stat(path)
     except OSError:
@@ -312,7 +316,7 @@ def identity_of(path: pathlib.Path) -> Identity:
 
 
 def for_visitors(folder: Folder, words: str) -> str:
-    """Returns a message without paths of this computer: of a file only its name in the directory."""
+    """Returns a message without directories of this computer. Files of the competition are named relative to its directory."""
     for place in (folder.path, folder.path.absolute()):
         words = re.sub(rf"(?<![\w./-]){re.escape(str(place))}/", "", words)
     return WHOLE_PATH.sub("", words)
@@ -333,17 +337,17 @@ def is_held(folder: pathlib.Path) -> bool:
 
 
 class Reader:
-    """The matches as the directory of a competition has them, or had them a delay ago. `version` counts the changes of open matches, and
-    `results_version` those of results."""
+    """The matches as the directory of a competition has them or, with a delay, as it had them that many seconds ago. `version` counts the changes of
+    open matches, and `results_version` those of results."""
 
     def __init__(self, plan: Plan, referee: Referee, delay: Delay | None = None) -> None:
         self.plan, self.referee, self.known, self.delay = plan, referee, {match.id: match for match in plan.matches}, delay or Delay()
         self.place = {match.id: at for at, match in enumerate(plan.matches)}
         self.open: dict[str, Seen] = {}
         self.results: dict[str, Result] = {}
-        # What the pages show of the matches with results. It stays if a result goes, because a page may still list it.
+        # What the pages show of the matches with results. An entry stays when its result is removed, because a page may still list the match.
         self.over: dict[str, Ended] = {}
-        # The matches that were open and have no result yet. Then those that got their result a moment ago, with the time of the clock and the last
+        # The matches that were open and have no result yet. Then the matches that have just got their result, with the time of the clock and the last
         # states.
         self.ending: set[str] = set()
         self.ended: dict[str, tuple[float, list[list[str]]]] = {}
@@ -403,18 +407,18 @@ class Reader:
             return None
 
     def rooms_there(self) -> dict[str, Room]:
-        """Returns the open matches, as they were if their directory can't be read now."""
+        """Returns the open matches. If their directory can't be read now, returns those of the last look."""
         names = self.listed(self.plan.folder.open)
         if names is not None:
             found = {name: self.room_there(name) for name in names if name in self.known}
             rooms = {name: room for name, room in found.items() if room and room.stage != WAITING}
-            # While INFO is sent, a match would show that a player is silent, perhaps in an open turn of another match, too.
+            # While INFO is being sent, a match would show that a player is silent, perhaps even in an open turn of another match.
             playing = {player for name, room in rooms.items() if room.stage != ASKING for player in self.known[name].players}
             self.rooms = {name: room for name, room in rooms.items() if room.stage != ASKING or playing.isdisjoint(self.known[name].players)}
         return self.rooms
 
     def room_there(self, name: str) -> Room | None:
-        """Returns an open match, as it was if its directory can't be read now, or None if it is not open."""
+        """Returns an open match, or None if it is not open. If its directory can't be read now, returns the match as it was."""
         try:
             stage = stage_of(set(os.listdir(self.plan.folder.open / name)))
             return Room(stage, extent_of(self.plan.folder.room_log(name), self.delay.seconds > 0))
@@ -452,7 +456,7 @@ class Reader:
         self.version += before != self.given_up
 
     def take_note(self, note: str) -> None:
-        """Takes a row of the journal. A run plays the matches again that earlier ones gave up."""
+        """Takes a row of the journal. A new run again plays the matches that earlier runs gave up."""
         restarted, given_up = RESTARTED.fullmatch(note), GIVEN_UP.fullmatch(note)
         if BEGUN.fullmatch(note):
             self.given_up.clear()
@@ -477,8 +481,8 @@ class Reader:
             self.version += 1
 
     def show_news(self) -> None:
-        """Shows what the journal says about players, once the rounds that were open then are finished: a dead or silent player did not answer in
-        these."""
+        """Shows what the journal says about players, once the rounds that were open then are finished, because a dead or silent player did not answer
+        in these rounds."""
         for news in self.news:
             found = ((self.open[name], name, at) for name, at in news.rounds.items() if name in self.open)
             news.rounds = {name: seen.open_round() if at is None else at for seen, name, at in found if at is None or seen.turn() <= at}
@@ -488,7 +492,7 @@ class Reader:
         self.news = [news for news in self.news if news.rounds]
 
     def look_at_room(self, name: str, seen: Seen, room: Room) -> int:
-        """Reads the log of an open match. Returns how many changes there are. A fault of these pages is shown, and stops no other match."""
+        """Reads the log of an open match. Returns how many changes there are. An error of these pages is shown, and does not stop other matches."""
         before, trouble = seen.version, ""
         try:
             seen.look(room, self.delay.now())
@@ -501,7 +505,7 @@ class Reader:
         return seen.version - before + is_other
 
     def judge(self, until: float, first: Container[str] = ()) -> None:
-        """Asks the referee about the answers of open matches, until a moment: first about these matches. Then shows news."""
+        """Asks the referee about the answers of open matches, beginning with these matches, until this time. Then shows news."""
         began = time.monotonic()
         due = [seen for seen in self.open.values() if seen.board.is_due()] if began >= self.next_judging else []
         for seen in sorted(due, key=lambda seen: (seen.match.id not in first, seen.judged)):
@@ -514,7 +518,7 @@ class Reader:
         self.show_news()
 
     def judge_match(self, seen: Seen) -> int:
-        """Asks the referee about the answers of a match. Returns how many changes there are. A fault of these pages stops no other match."""
+        """Asks the referee about the answers of a match. Returns how many changes there are. An error of these pages does not stop other matches."""
         before = seen.version
         try:
             seen.judge(self.plan.judge(self.referee, seen.match.game))
@@ -560,7 +564,7 @@ class Reader:
         return identity_of(folder.record(name)), identity_of(folder.log(name)) if self.delay.seconds else NOWHERE
 
     def must_be_shown(self, name: str) -> None:
-        """Raises NoRecord if other files have replaced those of the result that is shown. They wait like new ones."""
+        """Raises `NoRecord` if other files have replaced those of the result that is shown. The delay applies to them as to new files."""
         if self.delay.seconds and self.files_of(name) != self.identities.get(name):
             raise NoRecord("it was replaced")
 
@@ -577,7 +581,7 @@ class Reader:
             self.results_version += 1
 
     def look_at_record(self, name: str) -> None:
-        """Reads the record of a match, if there is one. A fault of these pages is shown, and stops no other match."""
+        """Reads the record of a match, if there is one. An error of these pages is shown, and does not stop other matches."""
         try:
             self.take_record(name)
         except Exception as why:
@@ -644,7 +648,8 @@ class Reader:
         self.replaced = newest(kept)
 
     def last_replaced(self) -> list[tuple[Replaced, int]]:
-        """Returns the last replaced moves, the newest first, each with the number of earlier ones of its match that are not among them."""
+        """Returns the last replaced moves, the newest first. The oldest one of each match has the number of earlier ones of this match that are left
+        out; the others have 0."""
         over = (move for move in self.replaced if move.match.id in self.results)
         found = newest([*over, *(move for seen in self.open.values() for move in seen.replaced)])
         counts = self.replaced_counts | {name: seen.replaced_count for name, seen in self.open.items()}

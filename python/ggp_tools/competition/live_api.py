@@ -1,5 +1,5 @@
-"""What `serve` sends to other programs: the matches as JSON, what changes, and numbers for Prometheus. It says no more about an open match than
-the pages, so all of it follows from finished rounds. docs/SERVING.md has the keys."""
+"""What `serve` sends to other programs: the matches as JSON, what changes, and numbers for Prometheus. About an open match, it says no more than the
+pages: what follows from finished rounds and, in the second half of a clock, which players have not answered. docs/SERVING.md has the keys."""
 
 import json
 import re
@@ -28,7 +28,7 @@ def stage_of(seen: Seen) -> str:
 
 
 def state_keys(reader: Reader, match: Match) -> Keys:
-    """Returns how far a match is."""
+    """Returns the keys about the state of a match."""
     if result := reader.results.get(match.id):
         outcomes, replaced = zip(*((result.outcome(role), result.replaced(role)) for role in range(len(match.players))))
         return {"state": "over", **result_keys(result), "outcomes": outcomes, "replaced": replaced}
@@ -45,7 +45,7 @@ def match_keys(reader: Reader, match: Match) -> Keys:
 
 
 def list_keys(reader: Reader, number: int) -> Keys | None:
-    """Returns a page of the list of all matches, in the schedule's order. None if it has no such page."""
+    """Returns a page of the list of all matches, in the schedule's order, or None if the list has no such page."""
     matches, first = reader.plan.matches, (number - 1) * MOST_LISTED
     if number > 1 and first >= len(matches):
         return None
@@ -54,7 +54,7 @@ def list_keys(reader: Reader, number: int) -> Keys | None:
 
 
 def numbered(states: list[list[str]], turns: int) -> list[Keys]:
-    """Returns the first state and the last ones, each with the number of the turn after which it was."""
+    """Returns the first state and the last ones, each with the number of the turn that it follows."""
     return [{"turn": at and turns - len(states) + 1 + at, "terms": terms} for at, terms in enumerate(states)]
 
 
@@ -69,7 +69,7 @@ def own_keys(reader: Reader, match: Match) -> Keys:
 
 
 def record_keys(reader: Reader, match: Match) -> Keys:
-    """Returns the keys of a match that is over which come from its record and its log."""
+    """Returns the keys that a match that is over gets from its record and its log."""
     messages, record = logged(reader.run_of(match.id)[0]).by_role(len(match.players)), reader.record_of(match)
     states = numbered(record["states"], len(record["states"]) - 1)
     return {"states": states, "moves": record["moves"], "errors": record["errors"], "messages": messages}
@@ -109,7 +109,7 @@ def metrics(reader: Reader, table: Table) -> bytes:
 
 
 def metrics_text(found: dict[str, dict[str, int]]) -> bytes:
-    """Returns numbers in Prometheus's text format: by their names, and by their labels."""
+    """Returns numbers in Prometheus's text format. They are given by name and by label."""
     rows = (f"ggp_{name}{label} {value}\n" for name, values in found.items() for label, value in values.items())
     return "".join(rows).encode("ascii")
 

@@ -47,8 +47,8 @@ def round_of(phase: str, moves: list) -> int:
 
 @dataclass(frozen=True)
 class Position:
-    """How far a match is: the phase, the roles that owe an answer in the open round, and what is recorded. It keeps only the first state and the last
-    ones, but for every state the role whose turn it is."""
+    """How far a match has got: the phase, the roles that owe an answer in the open round, and what is recorded. It keeps only the first and the last
+    states, but `movers` has the role whose turn it is in every state."""
 
     phase: str = "starting"
     owing: frozenset[int] = frozenset()
@@ -77,7 +77,7 @@ def text_in_line(answer: str) -> bytes:
 
 class LiveBoard:
     """The turns of a match, as far as its log has whole rounds. Answers in an open round are only stored: the referee is asked only about finished
-    rounds, so everything shown follows from these. `version` counts the changes of the position and the trouble."""
+    rounds, so the position follows only from these. `version` counts the changes of the position and the trouble."""
 
     def __init__(self, match: Match, strikes: int, rules: Path) -> None:
         self.match, self.strikes, self.rules = match, strikes, rules
@@ -85,7 +85,7 @@ class LiveBoard:
         self.begin()
 
     def begin(self) -> None:
-        """Begins with the first state, also when the match begins again on another host."""
+        """Begins with the first state, at first and when the match begins again on another host."""
         self.position, self.trouble, self.is_stuck = Position(owing=frozenset(range(len(self.match.players)))), "", False
         # The answers that are not recorded yet, by round and role. Then why players did not answer, by turn and role.
         self.answers: dict[int, Answers] = {}
@@ -125,7 +125,7 @@ class LiveBoard:
         return done
 
     def ask(self, referee: Referee) -> dict[int, Answers] | None:
-        """Asks the referee for the moves of the rounds that are known to be finished. Returns those that are recorded now, or None without a
+        """Asks the referee for the moves of the rounds that are known to be finished. Returns those that are recorded now, or None if there is no
         verdict."""
         now = self.position.round()
         rounds = {at: self.answers[at] for at in itertools.takewhile(self.is_finished, itertools.count(now))}

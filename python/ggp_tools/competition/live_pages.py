@@ -31,8 +31,8 @@ REPLACED = f"The last {MOST_REPLACED}, at most {MOST_OF_MATCH} of each match."
 
 @dataclasses.dataclass(frozen=True)
 class Status:
-    """What an open match waits for, and since when: for the role whose turn it is, or for answers. In the first half of the clock it names no other
-    player, because the speed of an answer may reveal it."""
+    """What an open match waits for, and since when: for the role whose turn it is, or for answers. In the first half of the clock, it names no other
+    player, because the speed of an answer may reveal the answer."""
 
     text: str
     since: float
@@ -107,7 +107,7 @@ def now_part(reader: Reader, waiting: int, given_up: int) -> Part:
 
 
 def replaced_part(replaced: list[tuple[Replaced, int]]) -> Part:
-    """Returns the last replaced moves, the newest first, each with the number of earlier ones of its match that are not listed."""
+    """Returns the last replaced moves, the newest first, with the numbers of earlier ones of their matches that are not listed."""
     rows = [(entry, before, reason_of(entry.error), entry.error.partition(" ")[2]) for entry, before in replaced]
     return live_part("replaced", rows=rows, said=REPLACED)
 

@@ -1,5 +1,5 @@
 """The live pages of a competition. A page is made when somebody opens it, and again when its data changes. Only one thread changes data here. Another
-one makes what follows from the files of a match that is over, which may take long."""
+thread makes the pages and the data of matches that are over from their files, which may take long."""
 
 import contextlib
 import functools
@@ -73,7 +73,7 @@ def reason_for_visitors(folder: Folder, why: Exception) -> str:
 @dataclass
 class OpenPage:
     """A page that somebody has open, or had open a moment ago, or the data of the event stream. It was made from the data in `stamp`. `events` has
-    the last changes, each with the version of the page that it leads to. It is replaced as a whole, so that another thread may read it."""
+    the last changes, each with the version of the page that it leads to. This tuple is replaced as a whole, so that another thread may read it."""
 
     title: str
     parts: PageParts | live_api.Keys
@@ -191,7 +191,7 @@ class LiveSite:
         deque(self.steps(), 0)
 
     def steps(self) -> Iterator[bool]:
-        """Does this in steps, so that other pages can be made between them."""
+        """Does the work of `look` in steps, so that other pages can be made between them."""
         self.look_at_plan()
         for _ in self.reader.look():
             # A plan that has just been read has no pages yet.
@@ -235,7 +235,7 @@ class LiveSite:
             try:
                 self.plans.append((live.clock(), self.read_plan()))
             except (Refused, NoReferee, Unchecked, OSError) as why:
-                # The person who serves gets the whole message.
+                # The person who runs `serve` gets the whole message.
                 print(f"ggp_competition: the plan has changed, but can't be read, so the pages show the previous one: {why}", file=sys.stderr)
                 said = reason_for_visitors(self.plan.folder, why)
                 trouble = f"The plan has changed, but can't be read, so these pages show the previous plan: {said}"
@@ -290,7 +290,7 @@ class LiveSite:
         return self.trouble or self.fault or self.reader.trouble()
 
     def stamp(self, path: str) -> tuple | None:
-        """Returns the data that a page is made from, or None without such a page. If it is the same, the page is the same."""
+        """Returns the data that a page is made from, or None if there is no such page. If the data is the same, the page is the same."""
         own = self.own_stamp(path)
         return None if own is None else (*own, self.shown_trouble())
 
@@ -366,7 +366,7 @@ class LiveSite:
             found.events = tuple(events)
 
     def opened(self, path: str) -> OpenPage | None:
-        """Returns a page as it is now. None if there is no such page, or its match is over."""
+        """Returns a page as it is now, or None if there is no such page, or if its match is over."""
         found = self.pages.get(path)
         if found:
             self.renew(path, found)
@@ -380,9 +380,9 @@ class LiveSite:
         return found
 
     def page(self, path: str) -> bytes | Work | None:
-        """Returns the page at a path, or what makes it, or None."""
+        """Returns the page at a path, or a function that makes it, or None."""
         if found := self.opened(path):
-            # It gets the changes after its version.
+            # The page gets the changes after this version.
             events = f"{'../' * (path.count('/') - 1)}events{path}?after={found.version}"
             live = {"now": self.delay.now(), "events": events, "reload": RELOAD}
             return page("parts", title=found.title, script="live.js", live=live, parts=found.parts)
@@ -397,7 +397,7 @@ class LiveSite:
         return data and data.replace(b"<body>", b"<body>" + trouble, 1) if trouble else data
 
     def data(self, path: str) -> bytes | Work | None:
-        """Returns the data for other programs at a path, or what makes it, or None."""
+        """Returns the data for other programs at a path, or a function that makes it, or None."""
         if path == live_api.METRICS:
             return live_api.metrics(self.reader, self.tables[0]) if self.tables else None
         found = live_api.API.fullmatch(path)

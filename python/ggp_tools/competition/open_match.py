@@ -149,7 +149,7 @@ class OpenMatch:
         return not given_up and not again
 
     def run_words(self, log: pathlib.Path | str) -> list[str]:
-        """Returns the command of the referee, which may run in another directory."""
+        """Returns the command line of the referee. The referee may run in another directory."""
         rules, player_rules = self.plan.folder.rules_of(self.match.game).absolute(), self.plan.player_rules_path(self.match.game)
         strikes = self.plan.competition.strikes
         return self.referee.run_words(rules, player_rules and player_rules.absolute(), self.match, strikes, self.places, log)

@@ -49,7 +49,7 @@ def html_of(template: str, macro: str, **values: object) -> "Markup":
 
 
 def part(macro: str, /, has_content: object = True, **values: object) -> Part:
-    """Returns the part of a page that a macro of competition.html makes, or one without content."""
+    """Returns the part of a page that a macro of competition.html makes, or an empty part."""
     return Part(macro, html_of("competition", macro, **values) if has_content else "")
 
 
@@ -59,7 +59,7 @@ def list_part(name: str, title: str, intro: str, rows: list[tuple["Match", str]]
 
 
 def rows_part(name: str, title: str, heads: list[str], rows: list[Item], nothing: str, control: str = "") -> Items:
-    """Returns a table whose rows come and go, with a text for the case without rows, and the HTML of a control above it."""
+    """Returns a table whose rows come and go, with a text that is shown if there are no rows, and the HTML of a control above the table."""
     opening = html_of("links", "open_table", name=name, title=title, heads=heads, nothing=nothing, control=control)
     return Items(name, opening, tuple(rows), "</tbody></table></div>")
 
@@ -91,7 +91,7 @@ def item_changes(old: Items, new: Items) -> tuple[list, list, list]:
 
 
 def changes(old: PageParts, new: PageParts) -> dict | None:
-    """Returns the changes of a page, or None without any. If more than parts and items have changed, the browser must load the page again."""
+    """Returns the changes of a page, or None if there are none. If more than parts and items have changed, the browser must load the page again."""
     if frame(old) != frame(new):
         return {"reload": True}
     dropped, replaced, added = [], [], []

@@ -33,7 +33,7 @@ from ggp_tools.templating import environment, page
 if typing.TYPE_CHECKING:
     from markupsafe import Markup
 
-# While matches are played, at least this many seconds pass before the pages are written again, which takes at most a tenth of the time.
+# While matches are played, at least this many seconds pass before the pages are written again. Writing them takes at most a tenth of the time.
 SECONDS, SHARE = 2, 10
 # The first page lists at most this many matches, and a crosstable has at most this many players.
 LAST, MOST_CROSSED = 20, 100
@@ -71,7 +71,7 @@ def first_ranks(table: Table, is_over: bool) -> list[tuple[str, list[str]]]:
 
 
 def seconds_between(times: dict) -> str:
-    """Returns how long a match took as text, which is empty if its log does not have the times."""
+    """Returns a text that says how long a match took. It is empty if the log does not have the times."""
     try:
         began, ended = (datetime.datetime.fromisoformat(times[key].replace("Z", "+00:00")) for key in ("begin", "end"))
     except (AttributeError, ValueError):
@@ -106,28 +106,28 @@ def matches_part(rows: list[Item], title: str = "Matches") -> Items:
 
 
 def pages_of_all(results: list[Result]) -> dict[str, list[Result]]:
-    """Returns the pages of the list of all matches by their names, with the matches of each. There is at least one page."""
+    """Returns the pages of the list of all matches, by name, each with its matches. There is at least one page."""
     starts = range(0, len(results), MOST_LISTED) or [0]
     return {f"matches{f'-{at}' if at > 1 else ''}": results[start : start + MOST_LISTED] for at, start in enumerate(starts, 1)}
 
 
 @functools.lru_cache(16)
 def rules_part(rules: Rules) -> Part:
-    """Returns the rules of a game, after the rules that its players get if they differ."""
+    """Returns the rules of a game, preceded by the rules that its players get, if these differ."""
     player_text = rules.player_rules
     player_sum = sum_of(player_text) if player_text is not None else ""
     return part("rules", text=rules.text, sum=sum_of(rules.text), player_text=player_text, player_sum=player_sum)
 
 
 def match_page(head: "Markup", data: bytes, rules: bytes, answers: dict[tuple[int, int], str], named: Named, winner: str) -> bytes:
-    """Returns the page of a match: that of `ggp-show-record` for its record, with a head. With rules it lists the legal moves."""
+    """Returns the page of a match: that of `ggp-show-record` for its record, with a head. If there are rules, the page lists the legal moves."""
     return page_of(read_record(data), (lambda: game_of(rules)) if rules else None, answers, Frame(head, named, winner))
 
 
 @dataclass(frozen=True)
 class Ended:
     """What the pages show of a finished match: when it began and ended, its rows on the first page and on pages below it, and what its players did.
-    If its log is too long, only its last lines were read for that."""
+    If the log of the match is too long, only its last lines were read for that."""
 
     result: Result
     begin: str | None
@@ -139,7 +139,7 @@ class Ended:
 
 
 def ended_match(result: Result, record: dict, run: list[Event], is_cut: bool) -> Ended:
-    """Returns what the pages show of a match, by its record and the last run in its log."""
+    """Returns what the pages show of a match, from its record and the last run in its log."""
     of_log = logged(run)
     begin, end, _ = of_log.times()
     times = {"begin": begin, "end": end, "isSetBack": of_log.is_set_back}
@@ -148,8 +148,8 @@ def ended_match(result: Result, record: dict, run: list[Event], is_cut: bool) ->
 
 
 class Site:
-    """The contents of a competition's pages by its results. `ended` must have the matches of these results. With gaps, the first page lists the
-    matches without a record."""
+    """The contents of a competition's pages, made from its results. `ended` must have the matches of these results. With `shows_gaps`, the first page
+    lists the matches without a record."""
 
     def __init__(self, plan: Plan, shows_gaps: bool = False) -> None:
         # If a module is missing, the command ends at once.
@@ -259,7 +259,7 @@ class Site:
 
 
 def grouped(results: list[Result], names_of: Callable[[Match], Iterable[str]]) -> dict[str, list[Result]]:
-    """Returns results by the names that a function returns for their matches."""
+    """Groups results by the names that a function returns for their matches."""
     by_name: dict[str, list[Result]] = {}
     for result in results:
         for name in names_of(result.match):
@@ -277,7 +277,7 @@ class PageOf(typing.NamedTuple):
 
 
 def pages_of(site: Site, tables: list[Table], results: list[Result]) -> dict[str, PageOf]:
-    """Returns all pages except those of matches by their names."""
+    """Returns all pages except those of matches, by name."""
     texts, of_game = standing_texts(tables[0]), grouped(results, lambda match: [match.game])
     of_player = grouped(results, lambda match: dict.fromkeys(match.players))
     pages = {"index.html": PageOf("", results, "", functools.partial(site.first_parts, tables, results))}
@@ -305,7 +305,7 @@ class Pages:
         self.next, self.keys = 0.0, {}
 
     def write_now_and_then(self, results: Callable[[], list[Result]]) -> None:
-        """Writes the pages of the results that a function returns, unless that was tried a moment ago."""
+        """Writes the pages of the results that a function returns, unless it has just tried to write them."""
         began = time.monotonic()
         if began < self.next:
             return
@@ -321,7 +321,7 @@ class Pages:
             (self.folder / name).mkdir(parents=True, exist_ok=True)
         self.write_matches(results)
         pages = pages_of(self.site, tables_of(self.plan.competition, results, self.plan.rounds), results)
-        # The first page is last, because its links must lead to pages.
+        # The first page is written last, because its links must lead to existing pages.
         for name, page_of in reversed(pages.items()):
             self.put_if_changed(name, page_of)
         names = {*pages, *(f"matches/{result.match.id}.html" for result in results)}
@@ -369,5 +369,5 @@ class Pages:
 
 
 def titled(plan: Plan, title: str) -> str:
-    """Returns the title of a page with the name of the competition. The first page has no other title."""
+    """Returns the title of a page with the name of the competition. The title of the first page is only this name."""
     return f"{plan.competition.name}: {title}" if title else plan.competition.name

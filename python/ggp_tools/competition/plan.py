@@ -32,8 +32,8 @@ PUT_BACK = "put back what was changed: once matches were played, the plan only g
 
 @dataclass
 class Plan:
-    """A competition with its rules by the names of the games, its matches in the order of the schedule, the bytes of competition.toml, its history, and
-    its rounds. `known` is the number of matches that were planned before the plan grew, or None."""
+    """A competition with its rules by game, its matches in the order of the schedule, the bytes of competition.toml, its history, and its rounds.
+    `known` is the number of matches that were planned before the plan grew, or None."""
 
     folder: Folder
     competition: Competition
@@ -169,7 +169,7 @@ def is_in_rules(folder: Folder, path: Path) -> bool:
 
 
 def loaded_games(folder: Folder, competition: Competition, referee: Referee) -> dict[str, Rules]:
-    """Returns the rules of each game by its name. Refuses all invalid descriptions together."""
+    """Returns the rules of each game, by name. Refuses all invalid descriptions together."""
     rules_by_name, mistakes = {}, []
     for game in competition.games:
         path, program = folder.given(game), referee.taking(game.large)
@@ -326,7 +326,7 @@ def faults_of_descriptions(plan: Plan, path_of: Callable[[Game], Path], advice: 
 
 
 def read_rules(folder: Folder, competition: Competition, referee: Referee) -> dict[str, Rules]:
-    """Returns the rules of each game by its name, as `plan` wrote them."""
+    """Returns the rules of each game, by name, as `plan` wrote them."""
     sums, rules = sums_of(folder.rule_sums()), {}
     if sums.keys() != {file.name for game in competition.games for file in folder.rule_files(game)}:
         raise refused_plan(folder, folder.rule_sums())

@@ -14,7 +14,7 @@ from ggp_tools.match_log import PLAY, SHORTAGE, START, Event, Message, messages,
 from ggp_tools.printable import counted
 from ggp_tools.records.show import why_of
 
-# A page shows at most this many errors of a player, and of one match, the newest ones.
+# A page shows only the newest errors of a player: at most this many in total, and at most this many of one match.
 MOST_ERRORS, MOST_OF_MATCH = 100, 10
 LAST_ERRORS = f"The last {MOST_ERRORS}, at most {MOST_OF_MATCH} of each match."
 
@@ -71,7 +71,7 @@ def errors_of_role(record: dict, role: int, asked: list[Message]) -> tuple[MoveE
 
 
 def appearances_of(result: Result, record: dict, run: Sequence[Event], ended: str | None) -> list[Appearance]:
-    """Returns the appearance of each role's player in a match, by the last run in its log."""
+    """Returns the appearance of each role's player in a match, from the last run in its log."""
     by_role = [[message for message in messages(run) if message.role == role] for role in range(len(result.match.players))]
     return [
         Appearance(result, role, record["roles"][role], ended or "", *times_of_role(asked), errors_of_role(record, role, asked))
@@ -83,7 +83,7 @@ def appearances_of(result: Result, record: dict, run: Sequence[Event], ended: st
 
 
 def page_name(player: str) -> str:
-    """Returns the file of a player's page. The prefix is there because a player's name may begin with a point."""
+    """Returns the file of a player's page. The prefix is needed because a player's name may begin with a period."""
     return f"players/player-{player}.html"
 
 
@@ -99,12 +99,12 @@ def standing_texts(table: Table) -> dict[str, str]:
 
 
 def standing_of(texts: dict[str, str], player: str, has_played: bool) -> str:
-    """Returns the sentence about a player, which may not be in a match that counts."""
+    """Returns the sentence about a player, even if it has played no match that counts."""
     return texts.get(player) or f"It has played no match{' that counts' if has_played else ''}."
 
 
 def role_rows(appearances: list[Appearance]) -> Iterator[tuple[str, str, list[str]]]:
-    """Yields each game and role, with the goals and times of the player there."""
+    """Yields each game and role of the player, with the goals and times in it."""
     by_role: dict[tuple[str, int, str], list[Appearance]] = {}
     for appearance in appearances:
         by_role.setdefault((appearance.result.match.game, appearance.role, appearance.role_name), []).append(appearance)

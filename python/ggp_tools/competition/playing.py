@@ -125,7 +125,8 @@ class Playing:
         self.reporter.clear()
 
     def is_going_on(self) -> bool:
-        """Returns whether a match is open, or one waits and may begin. None begins if nobody reads the output, or the journal cannot be written."""
+        """Returns whether a match is open, or one waits and may begin. No match begins if the output is no longer read, or if the journal cannot be
+        written."""
         if self.reporter.fault and not self.interrupts:
             self.interrupts = 1
         if (fault := self.reporter.journal.fault) and not self.is_full:

@@ -21,7 +21,7 @@ MOST_STEPS, CLOSE = 100, 1e-8
 
 @dataclass(frozen=True)
 class Rating:
-    """A player's rating, half the length of its 95% interval, and the group in which ratings can be compared. Without a group a player has no rating.
+    """A player's rating, half the length of its 95% interval, and the group in which ratings can be compared. A player without a group has no rating.
     A group has no ratings if its results limit the strengths so little that they cannot be computed with floating-point numbers."""
 
     rating: float | None
@@ -50,7 +50,7 @@ def likeliest(points: numpy.ndarray) -> list[tuple[float, float]] | None:
         chances = 1 / (1 + numpy.exp(numpy.clip(logs - logs[:, None], -700, 700)))
         information = -met * chances * chances.T
         information -= numpy.diag(information.sum(axis=1))
-        # No result says anything about all ratings together. This adds 1 there, so that the matrix has an inverse.
+        # No result says anything about the sum of all ratings. This adds 1 for the sum, so that the matrix has an inverse.
         information += 1 / len(met)
         try:
             step = numpy.linalg.solve(information, won - (met * chances).sum(axis=1))

@@ -81,12 +81,13 @@ class Result:
         return tuple(0 if role in lost else kept[role] for role in roles)
 
     def worths(self) -> tuple[int, ...] | None:
-        """Returns numbers that order the players of the match, by role: the goals that count, and -1 for a forfeit. Returns None without goals."""
+        """Returns numbers that order the players of the match, by role: the goals that count, and -1 for a forfeit. Returns None if there are no
+        goals."""
         lost, goals = self.forfeits(), self.counted()
         return None if None in goals else tuple(-1 if role in lost else goal for role, goal in enumerate(goals))
 
     def outcome(self, role: int) -> str | None:
-        """Returns whether a role has won, drawn or lost. Returns None in a match of one role, or without goals that count."""
+        """Returns whether a role has won, drawn or lost. Returns None if the match has one role, or no goals that count."""
         worth = self.worths() or ()
         others = worth[:role] + worth[role + 1 :]
         if not others:
@@ -97,7 +98,7 @@ class Result:
 
 
 def forfeit_words(result: Result) -> str:
-    """Says who has forfeited a match, why, and which goals count. The text is empty without a forfeit."""
+    """Says who has forfeited a match, why, and which goals count. The text is empty if there is no forfeit."""
     lost, players = result.forfeits(), result.match.players
     if not lost:
         return ""
@@ -106,7 +107,7 @@ def forfeit_words(result: Result) -> str:
 
 
 def winner_words(result: Result) -> str:
-    """Says who won a match, or who drew. The text is empty for one role, and without goals that count."""
+    """Says who won a match, or who drew. The text is empty if the match has one role, or no goals that count."""
     return winner_of_worths(result.match.players, result.worths() or ())
 
 
@@ -211,7 +212,7 @@ def forfeit_keys(result: Result) -> dict[str, object]:
 
 
 def again_keys(match: Match) -> dict[str, object]:
-    """Returns the keys of a match about its round, its replacement, and players that have withdrawn, as far as they apply."""
+    """Returns the keys of a match about its round, its replacement, and players that have withdrawn, if they apply."""
     keys = {"round": match.round, "again": match.again, "reason": match.reason, "insteadOf": match.instead_of, "withdrawn": match.withdrawn}
     return {key: value for key, value in keys.items() if value}
 

@@ -26,7 +26,7 @@ def count_of_all(plan: Plan) -> int:
 
 
 def rounds_words(plan: Plan) -> str:
-    """Says how many rounds are planned, and how many matches later rounds have. The text is empty without rounds."""
+    """Says how many rounds are planned, and how many matches later rounds have. The text is empty if there are no rounds."""
     if not plan.rounds:
         return ""
     left = matches_to_come(plan.competition, plan.rounds)
@@ -58,7 +58,7 @@ def rows_of(competition: Competition, planned: Round, of_meeting: dict[Meeting, 
 
 
 def bracket_part(plan: Plan, results: list[Result]) -> Part:
-    """Returns the bracket of a knockout, also of one at the end of a Swiss competition."""
+    """Returns the bracket of a knockout, which may be at the end of a Swiss competition."""
     if not plan.rounds[swiss_rounds(plan.competition) :]:
         return Part("bracket", "")
     rounds = [pairs for pairs in bracket_rounds(plan, [result for result in results if result.match.counts()]) if len(pairs) <= MOST_PAIRS]
@@ -66,7 +66,7 @@ def bracket_part(plan: Plan, results: list[Result]) -> Part:
 
 
 def bracket_rounds(plan: Plan, results: list[Result]) -> Iterator[list[tuple[Place, Place]]]:
-    """Yields the pairs of each round in the order of the bracket, also of rounds that are not planned."""
+    """Yields the pairs of each round in the order of the bracket, including rounds that are not planned yet."""
     competition, swiss, of_meeting = plan.competition, swiss_rounds(plan.competition), by_meeting(results)
     _, names = scores_and_seeds(competition, plan.rounds, results)
     seeds, withdrawn = [name for name in names if not swiss or name in plan.rounds[swiss].players()], withdrawn_by(competition, plan.rounds)

@@ -45,7 +45,7 @@ class Round:
 
 
 class Scores:
-    """The points, goals, opponents and byes of the players in some rounds."""
+    """The points, goals, opponents and byes of the players in these rounds."""
 
     def __init__(self, competition: Competition) -> None:
         self.meeting = 2 * len(competition.games)
@@ -244,7 +244,7 @@ class Rounds:
 
 
 def scores_and_seeds(competition: Competition, rounds: Sequence[Round], results: Iterable[Result]) -> tuple[Scores, list[str]]:
-    """Returns the scores of the rounds before a knockout, by the results that count, and the players in the order of its seeds."""
+    """Returns the scores of the rounds before a knockout, from the results that count, and the players in the order of the knockout's seeds."""
     swiss = swiss_rounds(competition)
     of_swiss = [result for result in results if result.match.round <= swiss]
     scores = scores_of(competition, rounds[:swiss], of_swiss, withdrawn_by(competition, rounds))

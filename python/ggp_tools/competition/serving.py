@@ -74,13 +74,13 @@ def run_serve(asked: argparse.Namespace, referee: Referee) -> int:
 
 
 async def serve(site: LiveSite, asked: argparse.Namespace) -> None:
-    """Serves until it is interrupted."""
+    """Serves the pages until the command is interrupted."""
     try:
         from ggp_tools.competition.http_server import Server
     except ImportError as why:
         end_without(why)
     server, stopped = Server(site, asked.connections, asked.base_path, asked.host, asked.embed), asyncio.Event()
-    # A shell that runs this in the background makes it ignore interrupts.
+    # A shell that starts this program in the background makes it ignore interrupts.
     for number in (signal.SIGINT, signal.SIGTERM):
         asyncio.get_running_loop().add_signal_handler(number, stopped.set)
     try:

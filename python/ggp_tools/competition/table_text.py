@@ -202,7 +202,7 @@ def json_text(plan: Plan, tables: list[Table]) -> str:
 
 
 def table_files(plan: Plan, tables: list[Table]) -> dict[str, bytes]:
-    """Returns the files of the table by their names."""
+    """Returns the files of the table, by name."""
     lines = ({"game": table.game, **fields(line)} for table in tables for line in table.standings())
     met = ({"game": table.game, **row, "points": points_text(row["points"])} for table in tables for row in crosstable(table))
     pairs = csv_text(("game", "player", "opponent", "matches", "points"), met)
@@ -212,7 +212,7 @@ def table_files(plan: Plan, tables: list[Table]) -> dict[str, bytes]:
 
 def joined(plans: Sequence[Plan]) -> Plan:
     """Returns a plan with the players, games and matches of several plans, for one table. Refuses two plans with the same name, and a game that does
-    not have the same rules in all of them. Each match counts by the rules of its competition, and rounds do not count."""
+    not have the same rules in all of them. Each match counts under the rules of its competition, and rounds do not count."""
     if len(plans) == 1:
         return plans[0]
     first, competitions, rules = plans[0].competition, [plan.competition for plan in plans], {}

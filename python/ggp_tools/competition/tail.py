@@ -9,7 +9,7 @@ from ggp_tools.match_log import whole_lines
 
 # At most this many bytes are read at a time, so that a long log does not delay the others.
 MOST_READ = 1 << 20
-# The first bytes show whether another file has replaced this one: the log of a match has the time of its begin there.
+# The first bytes show whether another file has replaced this one: in the log of a match, they have the time when the match began.
 HEAD = 256
 T = TypeVar("T")
 
@@ -25,8 +25,8 @@ class Tail(Generic[T]):
         self.is_behind = False
 
     def added(self, until: int, number: int = 0, head: bytes = b"") -> tuple[list[T], bool]:
-        """Returns the new lines up to a size of the file, and whether it is another file than before. There are none if the file can't be read, or
-        has another number or other first bytes than these."""
+        """Returns the new lines up to a size of the file, and whether it is a different file than before. There are no lines if the file can't be
+        read, or does not have this number and these first bytes."""
         if self.later and not os.path.exists(self.path):
             self.path, self.later, self.number = self.later, "", None
         try:
@@ -46,7 +46,7 @@ class Tail(Generic[T]):
         return is_file and os.pread(file.fileno(), HEAD, 0).startswith(head)
 
     def begin(self, file: BinaryIO) -> bool:
-        """Returns whether a file is another one than before, which is then read from its beginning."""
+        """Returns whether a file is a different one than before. If so, it is read from its beginning."""
         found, head = os.fstat(file.fileno()), file.read(HEAD)
         is_other = self.number not in (None, found.st_ino) or found.st_size < self.place or not head.startswith(self.head)
         if is_other:

@@ -144,7 +144,7 @@ class Explanation:
         return Entry(time, message.role, f"{text}. Message {message.number}: {message_of(message.message)}")
 
     def mark_of(self, message: Message) -> str | None:
-        """Returns the error that the record has for START or the last message. It is empty without an error, and None without a record."""
+        """Returns the error that the record has for START or the last message. It is empty if there is no error, and None if there is no record."""
         if not self.record or message.kind == PLAY or message.kind is None:
             return None
         return self.record["startMarks" if message.kind == START else "endMarks"][message.role]

@@ -72,7 +72,7 @@ class Ended:
 
 
 def named(cause: str | None, roles: list[Expression]) -> str | None:
-    """Replaces the number of the role in a cause by its name."""
+    """Replaces the number of the role in a cause with the role's name."""
     word, _, number = (cause or "").partition(" ")
     return f"{word} {spelled(roles[int(number)])}" if number else cause
 

@@ -52,7 +52,7 @@ class TimeIsOver(Exception):
 
 
 class Part(NamedTuple):
-    """An atomic sentence of a description: the number of its sentence, and its path there."""
+    """An atomic sentence of a description: the number of the sentence that contains it, and its path in that sentence."""
 
     sentence: int
     way: Way

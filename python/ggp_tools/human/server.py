@@ -29,7 +29,7 @@ REQUEST_SECONDS, PATIENCE = 5, 30
 MOST_CONNECTIONS = 128
 # The maximum number of long bodies that are read at the same time, so that few of them are in memory.
 MOST_LONG = 8
-# The files of the page by their names below the token. The page may load and run only these.
+# The files of the page, by their paths below the token. The page may load and run only these.
 FILES = {"": ("human.html", "text/html"), "style.css": ("style.css", "text/css"), "human.js": ("human.js", "text/javascript")}
 HEADERS = {"X-Content-Type-Options": "nosniff", "Referrer-Policy": "no-referrer"}
 HEADERS["Content-Security-Policy"] = "default-src 'none'; style-src 'self' 'unsafe-inline'; script-src 'self'; connect-src 'self'; base-uri 'none'; form-action 'none'; frame-ancestors 'none'"

@@ -58,7 +58,7 @@ class Formulas:
         return FALSE if not members else TRUE if self.has_all_moves(members) else self.listed(members)
 
     def alternatives(self, numbers: Iterable[int]) -> set[int]:
-        """Returns these formulas, with the members of each `or` instead of it."""
+        """Returns these formulas, with each `or` replaced by its members."""
         return {member for number in numbers for member in (self.members(number) if self.nodes[number][0] == "or" else (number,))}
 
     def listed(self, members: set[int]) -> int:
@@ -142,7 +142,7 @@ class Formulas:
         return "or", *map(self.expression, node[1])
 
     def replaced(self, number: int, known: dict[int, int], is_simplified: bool) -> int:
-        """Returns the formula with the parts replaced that `known` has, which is also the cache. It may be simplified."""
+        """Returns the formula with those parts replaced that are in `known`, which is also the cache. It may be simplified."""
         if number not in known:
             node = self.nodes[number]
             if node[0] == "not":

@@ -96,7 +96,7 @@ def endless(rules: list[Rule]) -> Rule | None:
 
 
 def is_endless(rule: Rule) -> bool:
-    """Returns whether the rule's conditions match its own head with a variable replaced by a larger term, and nothing else bounds it."""
+    """Returns whether the rule's conditions match its own head with a variable replaced by a larger term, and no other condition limits it."""
     asked = [literal for literal in rule.body if literal.positive and not literal.same]
     if not asked or any(literal.same for literal in rule.body):
         return False

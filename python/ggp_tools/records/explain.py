@@ -230,7 +230,7 @@ def explain_lines(asked_for: argparse.Namespace) -> int:
     counts, pile = [0, 0], Pile([asked_for.record])
     batches = pile.batches()
     with rules_of(asked_for) as (words, game):
-        # Even without records the referee reports errors in the rules.
+        # Even if there are no records, the referee reports errors in the rules.
         for batch in itertools.chain([next(batches, [])], batches):
             fitting = [line for line in batch if not line.is_too_long]
             found = judged(asked_for.program, ["--lines", *words], b"".join(line.data + b"\n" for line in fitting), len(fitting))

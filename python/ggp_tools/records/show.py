@@ -34,9 +34,9 @@ LONGEST_AXIS = 32
 # A page that would have more boards lists terms instead, because a board is about a hundred times as long as its terms.
 MOST_DRAWN = 32_768
 # A single state is drawn from at most this many terms: its own, those of earlier states, and those of the rules. Its boards have at most this many
-# places and names together. This limits the processor time of a drawing to about half a second. A larger state is listed as text.
+# places and names in total. This limits the processor time of a drawing to about half a second. A larger state is listed as text.
 MOST_READ, MOST_PLACES = 16_384, 4_096
-# A part of the page of a long match draws states with at most this many terms together, which takes about as long. On average, these terms have at
+# A part of the page of a long match draws states with at most this many terms in total, which takes about as long. On average, these terms have at
 # most this many letters.
 MOST_OF_PART, LETTERS = 16_384, 64
 # The sizes of the caches of terms, of cells and of openings of boards.
@@ -176,7 +176,7 @@ class Board:
 
 
 def lean_of(places: set[Place]) -> int:
-    """Returns the lean of a board of hexagons whose places form a hexagon, a star or a triangle, which rotating by 120 degrees does not change.
+    """Returns the lean of a board of hexagons whose places form a hexagon, a star or a triangle, and are not changed by a rotation of 120 degrees.
     Returns 0 for other places."""
     count, across, up = len(places), sum(x for x, _ in places), sum(y for _, y in places)
     for lean in (1, -1) if count > 6 else ():
@@ -232,7 +232,7 @@ class Named:
 
     @functools.cached_property
     def boards(self) -> list[Board]:
-        """The boards that are known without a state: those with places that moves name. Rows are not letters, because (on a b) is a pile."""
+        """The boards that are known without a state: the boards with places that moves name. Rows are not letters, because (on a b) is a pile."""
         found = boards_of_terms({group: {0: terms} for group, terms in self.ground.items() if terms}, Named((), self.is_hex))
         return [board for board in found if kind_of(board.up) != "letters" and any(places_of(move, board) for move in self.moves)]
 
@@ -315,7 +315,7 @@ def ground_of(board: Board, places: Places) -> str | None:
 
 @functools.lru_cache(MOST_CELLS)
 def cell(place: Place, name: str, labels: tuple[str, ...], marks: tuple[Mark, ...], kinds: tuple[str, ...], is_played: bool) -> "Markup":
-    """Returns a cell as HTML, a button if a person plays. If its marks differ from its labels, the labels are its title. Cells are cached, because
+    """Returns a cell as HTML, as a button if a person plays. If its marks differ from its labels, the labels are its title. Cells are cached, because
     most are the same in many states."""
     is_named = is_played or labels and (len(labels) > 1 or marks[0].text != labels[0])
     words = f"{name}: {', '.join(labels) or 'nothing'}" if is_named else ""
