@@ -234,7 +234,7 @@ def reached(asks: Mapping[Relation, Iterable[Relation]], relations: Iterable[Rel
 
 
 def components(graph: Mapping[Expression, Iterable[Expression]]) -> list[list[Expression]]:
-    """Returns the strongly connected components of a graph, each as a list, in topological order from below."""
+    """Returns the strongly connected components of a graph, each as a list. A component comes after those that it leads to."""
     # Tarjan's algorithm without recursion. Nodes on the stack have places in it as their indices, and nodes of found components a higher one.
     lows, stack, components_found = {}, [], []
     for start in graph:

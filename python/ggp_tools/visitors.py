@@ -40,8 +40,8 @@ def oldest_of_most(connections: Collection[Connection], size_of: Callable[[Conne
 
 
 def one_for(client: str, connections: Collection[Connection]) -> Connection | None:
-    """Returns the connection that gives way to a new one of a client: that of `oldest_of_most`, unless that client has at most one connection more
-    than this one."""
+    """Returns the connection that gives way to a new one of a client: the one from `oldest_of_most`, unless its client has at most one connection
+    more than this client."""
     counts, gone = Counter(connection.client for connection in connections), oldest_of_most(connections)
     return gone if gone and counts[client] + 1 < counts[gone.client] else None
 

@@ -203,7 +203,7 @@ def read_record(data: bytes) -> dict:
 
 
 def forfeit_keys(result: Result) -> dict[str, object]:
-    """Returns the keys of a match about its forfeits: who has forfeited it, why, and which goals count."""
+    """Returns the keys about the forfeits of a match: who has forfeited it, why, and which goals count."""
     lost, players = result.forfeits(), result.match.players
     if not lost:
         return {}
@@ -212,13 +212,13 @@ def forfeit_keys(result: Result) -> dict[str, object]:
 
 
 def again_keys(match: Match) -> dict[str, object]:
-    """Returns the keys of a match about its round, its replacement, and players that have withdrawn, if they apply."""
+    """Returns the keys about the round of a match, its replacement, and players that have withdrawn, if they apply."""
     keys = {"round": match.round, "again": match.again, "reason": match.reason, "insteadOf": match.instead_of, "withdrawn": match.withdrawn}
     return {key: value for key, value in keys.items() if value}
 
 
 def result_keys(result: Result) -> dict[str, object]:
-    """Returns the keys of a match about its end."""
+    """Returns the keys about the end of a match."""
     ended = {"turns": result.turns, "phase": result.phase, "cause": result.cause}
     return {"goals": result.goals, **forfeit_keys(result), **again_keys(result.match), **ended}
 

@@ -60,7 +60,7 @@ def rounded(number: float | None, places: int) -> float | None:
 
 
 def fields(line: Line) -> dict[str, object]:
-    """Returns the values of a line by the heads of the columns of a file."""
+    """Returns the values of a line by the column heads of a file."""
     values = {**vars(line), "goals": line.mean(), "points": line.points(), "rating": None, "half": None, "group": None}
     if line.rating:
         values |= {"rating": rounded(line.rating.rating, 1), "half": rounded(line.rating.half, 1), "group": line.rating.group}
@@ -68,7 +68,7 @@ def fields(line: Line) -> dict[str, object]:
 
 
 def crosstable(table: Table) -> list[dict[str, object]]:
-    """Returns how often the two players of each pair met, and the points of the first, by the heads of the columns of a file."""
+    """Returns how often the two players of each pair met, and the points of the first, by the column heads of a file."""
     return [
         {"player": player, "opponent": opponent, "matches": met, "points": table.points[player, opponent]}
         for (player, opponent), met in sorted(table.met.items())

@@ -16,7 +16,7 @@ T = TypeVar("T")
 
 class Tail(Generic[T]):
     """The parsed lines of a growing file. Each read continues where the last one ended, or at the beginning if the file was replaced or cut. Once the
-    file is gone, a later file that has its lines too is read instead."""
+    file is gone, a later file, which has the same lines, is read instead."""
 
     def __init__(self, path: str, parse: Callable[[bytes], T | None], later: str = "") -> None:
         self.path, self.parse, self.later = path, parse, later

@@ -135,7 +135,7 @@ class Folded:
             own.update(scaled(whose, grown * self.formulas.sizes[by[atom]] / sizes))
 
     def rewrite(self, head: int, bodies: list[Formed]) -> None:
-        """Replaces each body of a head by an equivalent one."""
+        """Replaces each body of a head with an equivalent one."""
         if head in self.origins:
             origins = self.origins.pop(head)
             for old, new in zip(self.bodies[head], bodies):

@@ -191,7 +191,7 @@ class Making:
         # The derived terms must actually grow: a sentence without instances derives nothing.
         if rule and self.grounder and self.grounder.lists_in(rule) > spelled(self.sentences[rule.sentence]).count("("):
             why = f"there are infinitely many instances: {why}; {self.cited(rule.sentence)}, derives ever larger terms from its own"
-        # After unrolling, the rounds are too many, not the instances.
+        # After unrolling, there are too many rounds, and not too many instances.
         if self.grounder and not self.is_unrolled and (largest := self.grounder.largest()):
             why += f"; the most instances, {largest[1]:,}, are those of {self.cited(largest[0])}"
         return why
