@@ -132,7 +132,7 @@ def note_of(line: bytes) -> str | None:
 
 @dataclass
 class Seen:
-    """An open match. The pages show only what follows from the finished rounds, and from a clock that starts when the last of them is found finished.
+    """An open match. The pages use only the finished rounds, and a timer that starts when `serve` notices that the last of these has finished.
     If the state says whose turn it is, that role is shown as awaited. After half of the open round's time, all awaited roles are shown, and nothing
     else of that round. `version` counts the changes of what is shown."""
 
