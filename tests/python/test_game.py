@@ -7,6 +7,8 @@ import sys
 import time
 import unittest
 
+import pytest
+
 from ggp_tools.descriptions.goals import goals_said
 from ggp_tools.descriptions.suspicious import suspicions
 from support import COMMAND, GAMES, InFolder, program, program_but, run
@@ -275,6 +277,7 @@ class Game(InFolder):
         self.assertEqual(lines[-1], "2 of them have a move that no player can make: their records are not compared")
         self.assertRegex(lines[1], r"^suspicious: line 5, column 1: no player can make this move: ")
 
+    @pytest.mark.gate
     def test_rules_that_are_too_deep_for_the_interpreter(self):
         # Each level needs a call, and 20,000 calls are allowed: more than the usual limits of the program need.
         chain = "".join(f"(<= p{number} (or (or (or p{number + 1}))))\n" for number in range(21_000))

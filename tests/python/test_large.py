@@ -1,5 +1,6 @@
 """A game beyond the usual limits is checked, planned, played, published and checked with the large limits."""
 
+import pytest
 
 from ggp_tools.instantiating.limits import LARGE_NOTE
 from ggp_tools.kif import expressions
@@ -10,6 +11,7 @@ from support import GAMES, InFolder, call, run
 BESIDE = 8_192
 
 
+@pytest.mark.gate
 class Large(InFolder):
     def setUp(self):
         super().setUp()

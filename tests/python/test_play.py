@@ -13,6 +13,8 @@ import tempfile
 import time
 import unittest
 
+import pytest
+
 from ggp_tools.competition.files import held
 from ggp_tools.competition.command import MOST_LINES
 from players import TestPlayer
@@ -444,6 +446,7 @@ class Play(InFolder):
                     self.assertEqual(self.files(), before)
         self.assertEqual(run(self.folder, "play")[:2], (0, "6 of 6 matches have a lawful record\n"))
 
+    @pytest.mark.gate
     def test_a_damaged_record_costs_no_other(self):
         self.planned(["good", "good", "good"])
         run(self.folder, "play")
