@@ -6,6 +6,7 @@ import re
 from unittest import mock
 
 from ggp_tools.competition.command import arguments
+from ggp_tools.competition.competition_file import read_competition
 from ggp_tools.competition.init_file import write_first_file
 from players import TestPlayer
 from support import GAMES, assert_spoilt, toml
@@ -156,6 +157,7 @@ class Rules(InArchive):
         words = "init", "cup", "--games", "countdown", "--swiss", "1", "--final", "2", "--players", f"{ann},{bob}"
         self.assertEqual(self.ran(*words), ["cup/competition.toml: `ggp_competition plan cup` is next"])
         first = (self.folder / "cup/competition.toml").read_text()
+        self.assertEqual(read_competition(first.encode()).absent, "play")
         self.assertIn("cup/competition.toml already exists", self.refused(*words))
         for more, refused in (
             (["--games", "nogame"], "'nogame' is neither a file nor a game"), (["--knockout"], "not allowed with argument --swiss"), (["--swiss", "x"], "rounds: this is not TOML"),

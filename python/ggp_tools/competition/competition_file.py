@@ -26,13 +26,12 @@ MOST_SECONDS, MOST_STRIKES, MOST_PLAYERS, MOST_GAMES, MOST_ROUNDS, MOST_PORT = 8
 RESTARTS = WHEN_DEAD, EACH_MATCH, NEVER = "when_dead", "each_match", "never"
 PORT = "{port}"
 RUNS_ELSEWHERE = "a program that runs its arguments on another machine"
-MEMORY = re.compile(r"([1-9][0-9]{0,5})([KMGT])")
+MEMORY = re.compile("[1-9][0-9]{0,5}[KMGT]")
 MOST_PROCESSORS, MOST_START_SECONDS, MOST_RATING = 4_096, 3_600, 10_000
 # The default time limit for making a description ground, in seconds, and the greatest one.
 INSTANTIATING, MOST_INSTANTIATING = 60, 1_000_000
 # The forms that plan each round from the results of the previous one.
 ROUND_KINDS = SWISS, KNOCKOUT = "swiss", "knockout"
-ROUND_KEYS = ("absent_rounds", "pause")
 # The keys of each kind besides `kind`.
 KINDS = {"round_robin": ("rounds",), "gauntlet": ("rounds", "one"), "schedule": ("lines",), SWISS: ("rounds", "final"), KNOCKOUT: ()}
 ABSENT = ("leave", "play")
@@ -64,7 +63,6 @@ class Mistaken(Exception):
     """All mistakes of a file."""
 
     def __init__(self, mistakes: list[Mistake]) -> None:
-        super().__init__(counted(len(mistakes), "mistake"))
         self.mistakes = mistakes
 
 
@@ -94,6 +92,12 @@ def spelled(value: object) -> str:
     except ValueError:
         # Python does not convert numbers of more than 4,300 digits.
         return "a number of many digits"
+
+
+def is_address(text: str) -> bool:
+    """Returns whether a text is HOST:PORT."""
+    found = ADDRESS.fullmatch(text)
+    return bool(found) and 1 <= int(found[2]) <= MOST_PORT
 
 
 class Section:
@@ -143,14 +147,16 @@ class Section:
             return default
         return self.table[key]
 
-    def text(self, key: str, default: str | None = None) -> str | None:
-        return self.value(key, str, "a text in quotes", default)
+    def text(self, key: str, default: str | None = None, what: str = "", is_valid: Callable[[str], object] = bool) -> str | None:
+        """Returns the text of the key, or the default if it is missing or not a text. If `what` is given, a text that is not valid is a mistake too."""
+        found = self.value(key, str, "a text in quotes", default)
+        if what and found is not None and found is self.table.get(key) and not is_valid(found):
+            self.expected(key, what, found)
+            return default
+        return found
 
     def path_of_file(self, key: str, default: str | None = None) -> str | None:
-        found = self.text(key, default)
-        if found is self.table.get(key) and found is not None and (not found or CONTROL.search(found)):
-            self.expected(key, "the path of a file", found)
-        return found
+        return self.text(key, default, "the path of a file", lambda path: path and not CONTROL.search(path))
 
     def flag(self, key: str) -> bool:
         return self.value(key, bool, "true or false", False)
@@ -163,17 +169,10 @@ class Section:
         return found
 
     def word(self, key: str, words: tuple[str, ...], default: str) -> str:
-        found = self.text(key, default)
-        if found not in words:
-            self.expected(key, f"one of {', '.join(words)}", found)
-            return default
-        return found
+        return self.text(key, default, f"one of {', '.join(words)}", words.__contains__)
 
     def name(self, key: str, form: re.Pattern, longest: int, more: str = "") -> str | None:
-        found = self.text(key)
-        if found is not None and not form.fullmatch(found):
-            self.expected(key, f"a name of 1 to {longest} letters, digits, `-`, `_` and `.`{more}", found)
-        return found
+        return self.text(key, None, f"a name of 1 to {longest} letters, digits, `-`, `_` and `.`{more}", form.fullmatch)
 
     def reason(self, key: str) -> str | None:
         """Returns a reason: an empty one for `true`, None for `false` or if the key is missing."""
@@ -206,18 +205,12 @@ class Section:
         return ()
 
     def address(self, key: str) -> str | None:
-        address = self.text(key)
-        found = ADDRESS.fullmatch(address or "")
-        if address is not None and not (found and 1 <= int(found[2]) <= MOST_PORT):
-            self.expected(key, f"HOST:PORT, with a port from 1 to {MOST_PORT:,}", address)
-        return address
+        return self.text(key, None, f"HOST:PORT, with a port from 1 to {MOST_PORT:,}", is_address)
 
     def memory(self, key: str) -> int:
-        """Returns the bytes of memory that a player may use."""
-        found = MEMORY.fullmatch(text := self.text(key, "") or "")
-        if text and not found:
-            self.expected(key, 'a number with K, M, G or T, such as "512M"', text)
-        return int(found[1]) << (10 * (1 + "KMGT".index(found[2]))) if found else 0
+        """Returns the bytes of memory that a player may use; 0 if there is no limit."""
+        text = self.text(key, "", 'a number with K, M, G or T, such as "512M"', lambda text: not text or MEMORY.fullmatch(text))
+        return int(text[:-1]) << (10 * (1 + "KMGT".index(text[-1]))) if text else 0
 
     def environment(self, key: str) -> tuple[tuple[str, str], ...]:
         found = self.value(key, dict, "a table of texts", {})
@@ -424,8 +417,7 @@ def games_of(root: Section, clocks: dict[str, int | None]) -> tuple[Game, ...]:
 def is_place(text: str) -> bool:
     """Returns whether a text is the NAME@HOST:PORT of a player."""
     name, _, address = text.partition("@")
-    found = ADDRESS.fullmatch(address)
-    return bool(PLAYER_NAME.fullmatch(name) and found and 1 <= int(found[2]) <= MOST_PORT)
+    return bool(PLAYER_NAME.fullmatch(name)) and is_address(address)
 
 
 def command_of(section: Section) -> Command | None:
@@ -486,20 +478,15 @@ def lines_of_schedule(section: Section, games: set[str], players: set[str]) -> l
     if not lines:
         section.mistake("lines", "expected at least one line: a game, and its players in the order of the roles")
     for line in lines:
-        refuse_line(section, line, games, players)
+        game, *names = line.text.split() or [""]
+        if game not in games:
+            section.mistake("lines", f"there is no game {spelled(game)}", line.line)
+        for number, name in enumerate(names):
+            if name not in players:
+                section.mistake("lines", f"there is no player {spelled(name)}", line.line)
+            if name in names[:number]:
+                section.mistake("lines", f"the line has the player {spelled(name)} twice", line.line)
     return lines
-
-
-def refuse_line(section: Section, line: Text, games: set[str], players: set[str]) -> None:
-    """Refuses a line of a schedule with an unknown game, with an unknown player, or with a player twice."""
-    game, *names = line.text.split() or [""]
-    if game not in games:
-        section.mistake("lines", f"there is no game {spelled(game)}", line.line)
-    for number, name in enumerate(names):
-        if name not in players:
-            section.mistake("lines", f"there is no player {spelled(name)}", line.line)
-        if name in names[:number]:
-            section.mistake("lines", f"the line has the player {spelled(name)} twice", line.line)
 
 
 def root_of(data: bytes, mistakes: list[Mistake]) -> Section:
@@ -527,7 +514,7 @@ def read_competition(data: bytes) -> Competition:
     kind = found.form.kind
     if "order" in root.table and kind in ROUND_KINDS:
         root.mistake("order", f"the kind {kind} has its own order")
-    for key in ROUND_KEYS if kind not in ROUND_KINDS else ():
+    for key in ("absent_rounds", "pause") if kind not in ROUND_KINDS else ():
         if key in root.table:
             root.mistake(key, f"only the kinds {' and '.join(ROUND_KINDS)} have this key")
     if kind == KNOCKOUT and found.withdrawn_results == VOID:

@@ -19,7 +19,7 @@ start = {start}        # seconds for START, in which a player reads the rules
 play = {play}         # seconds for every other message
 strikes = 3       # a player is retired in a match after this many replaced moves in a row
 forfeit = true    # a player that was retired in a match has lost it
-absent = "leave"  # "play": matches with silent players are played, too
+absent = "play"   # matches with silent players are played, too; "leave": they are not
 {more}
 [faults]
 replaced = 3      # a player with this many replaced moves in a match has lost it; turns with one legal move do not count
@@ -56,7 +56,8 @@ def add_init(command: argparse.ArgumentParser) -> None:
     command.add_argument("--games", metavar="A,B,..", help="names of games in examples/games, or paths of descriptions")
     forms = command.add_mutually_exclusive_group()
     for form, word in FORMS.items():
-        forms.add_argument(f"--{form}", **({"metavar": word} if word else {"action": "store_true"}), help=f"the form is a {form.replace('-', ' ')}")
+        value = {"metavar": word, "type": lambda more, form=form: (form, more)} if word else {"action": "store_const", "const": (form, "")}
+        forms.add_argument(f"--{form}", dest="form", help=f"the form is a {form.replace('-', ' ')}", **value)
     command.add_argument("--final", metavar="N", help="after a Swiss competition the best N players play a knockout")
     command.add_argument("--players", metavar="NAME=HOST:PORT,..", help="the players (none: add them to the file)")
     command.add_argument("--start", metavar="S", default="10", help="seconds for START (10)")
@@ -69,12 +70,8 @@ def ask_for_the_rest(asked: argparse.Namespace) -> None:
     form, _, more = input("Form: round-robin ROUNDS, swiss ROUNDS, gauntlet PLAYER or knockout: ").strip().partition(" ")
     if form not in FORMS:
         raise Refused(f"{form!r} is not one of {', '.join(FORMS)}")
-    setattr(asked, form.replace("-", "_"), more or True)
+    asked.form = form, more or True
     asked.players = asked.players or input("Players, such as ann=192.0.2.7:9147,bob=192.0.2.8:9147 (none: add them to the file): ")
-
-
-def chosen(asked: argparse.Namespace) -> str | None:
-    return next((form for form in FORMS if getattr(asked, form.replace("-", "_"))), None)
 
 
 def game_entry(word: str, folder: pathlib.Path) -> str:
@@ -88,8 +85,7 @@ def game_entry(word: str, folder: pathlib.Path) -> str:
 
 def text_of(asked: argparse.Namespace, folder: pathlib.Path) -> str:
     """Returns the text of competition.toml."""
-    form = chosen(asked)
-    more = getattr(asked, form.replace("-", "_"))
+    form, more = asked.form
     keys = {"gauntlet": f'one = "{more}"\n', "knockout": ""}.get(form, f"rounds = {more}\n")
     keys += f"final = {asked.final}\n" if asked.final else ""
     names = {"name": asked.name or folder.resolve().name, "start": asked.start, "play": asked.play, "kind": form.replace("-", "_")}
@@ -108,9 +104,9 @@ def write_first_file(asked: argparse.Namespace) -> pathlib.Path:
     folder = Folder(asked.folder)
     if folder.competition.exists():
         raise Refused(f"{folder.competition} already exists")
-    if not asked.games and not chosen(asked) and sys.stdin.isatty():
+    if not asked.games and not asked.form and sys.stdin.isatty():
         ask_for_the_rest(asked)
-    if not asked.games or not chosen(asked):
+    if not asked.games or not asked.form:
         raise Refused(f"--games, and one of {', '.join(f'--{form}' for form in FORMS)}, are needed")
     text = text_of(asked, folder.path)
     try:

@@ -1,5 +1,6 @@
 """Reads TOML with the line of each value. Python's parser does not report lines, so they are found in the text that it has accepted."""
 
+import itertools
 import re
 import tomllib
 from collections import Counter
@@ -7,8 +8,8 @@ from collections.abc import Iterator
 
 # The keys and indexes that lead to a value.
 Path = tuple[str | int, ...]
-# The tokens of a statement, each with its line.
-Statement = list[tuple[int, str]]
+# The tokens of a statement, each with its line, and with how many brackets and braces are open after it.
+Statement = list[tuple[int, str, int]]
 # Multi-line and single-line strings, comments, punctuation, and everything between them.
 TOKEN = re.compile(
     r'"""(?:[^\\]|\\.)*?"{3,5}|\'\'\'.*?\'{3,5}|"(?:[^"\\]|\\.)*"|\'[^\']*\'|#[^\n]*|[\[\]{}=,\n]|[^\s\[\]{}=,"\'#]+', re.DOTALL
@@ -83,8 +84,8 @@ def statements(text: str) -> Iterator[Statement]:
                 yield statement
             statement = []
         elif word != "\n" and not word.startswith("#"):
-            statement.append((line, word))
             depth += {"[": 1, "{": 1, "]": -1, "}": -1}.get(word, 0)
+            statement.append((line, word, depth))
         line += word.count("\n")
 
 
@@ -99,21 +100,16 @@ def names_of(words: list[str]) -> Path:
 
 def member_lines(statement: Statement) -> Iterator[int]:
     """Yields the line of each member of the array that is the value of a statement."""
-    depth, is_next = 0, False
-    for line, word in statement:
-        if is_next and word != "]":
+    for (_, word, depth), (line, following, _) in itertools.pairwise(statement):
+        if depth == 1 and word in ("[", ",") and following != "]":
             yield line
-            is_next = False
-        depth += {"[": 1, "{": 1, "]": -1, "}": -1}.get(word, 0)
-        if depth == 1 and word in ("[", ","):
-            is_next = True
 
 
 def lines_of(text: str) -> dict[Path, int]:
     """Returns the lines of the values in a text that is TOML."""
     lines, counts, table = {(): 1}, Counter(), ()
     for statement in statements(text):
-        line, words = statement[0][0], [word for _, word in statement]
+        line, words = statement[0][0], [word for _, word, _ in statement]
         if words[0] == "[":
             is_member = words[1] == "["
             table = header_path(names_of([word for word in words if word not in "[]"]), is_member, counts)
