@@ -497,6 +497,16 @@ class Pages(unittest.TestCase):
         with mock.patch.object(server, "REQUEST_SECONDS", 0):
             self.assertEqual(self.half("127.0.0.1", 1).recv(100), b"")
 
+    def test_a_head_has_a_limit(self):
+        self.assertEqual(self.request("GET", self.of_page(), headers={"Cookie": "x" * 15_000}).status, 200)
+        line = socket.create_connection(self.server.server_address[:2], SECONDS)
+        self.addCleanup(line.close)
+        answer = b""
+        with contextlib.suppress(ConnectionError):
+            line.sendall(b"GET %b HTTP/1.0\r\n%b\r\n" % (self.of_page().encode(), (b"a:" * 30_000 + b"\r\n") * 90))
+            answer = line.recv(100)
+        self.assertEqual(answer, b"")
+
     def test_a_message_may_have_32_mib(self):
         self.seat.page_opens(1)
         self.assertEqual(self.request("POST", "/", "(INFO)".ljust(33_554_432)).read(), b"available")

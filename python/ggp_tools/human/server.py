@@ -21,6 +21,8 @@ from ggp_tools.visitors import Visitors, client_of
 
 # START has the whole rules, with a space for each atom and each list.
 MOST_BYTES, MOST_MOVE = 33_554_432, 65_536
+# After this many bytes no more of a head is read, because parsing a long one may take minutes.
+LONGEST_HEAD = 16_384
 # After this many seconds without a change the page gets a line; this also detects that the page was closed.
 ALIVE = 1.0
 # A request must arrive within this many seconds, and one more for each MiB of its body. The client must accept the answer within PATIENCE seconds.
@@ -46,17 +48,19 @@ def is_own_name(host: str, own: str) -> bool:
 
 
 class Request(io.RawIOBase):
-    """A request that is read from a socket within a deadline. `visitors` counts it as a connection."""
+    """A request that is read from a socket within a deadline, and up to a number of bytes. `visitors` counts it as a connection."""
 
     def __init__(self, connection: socket.socket, client: str, visitors: Visitors) -> None:
         self.connection, self.client, self.visitors = connection, client, visitors
-        self.is_idle, self.began, self.received = True, time.monotonic(), 0
+        self.is_idle, self.began, self.received, self.most = True, time.monotonic(), 0, LONGEST_HEAD
         self.ends = self.began + REQUEST_SECONDS
 
     def readable(self) -> bool:
         return True
 
     def readinto(self, data: memoryview) -> int:
+        if self.received >= self.most:
+            raise ConnectionError("the request is too long")
         self.connection.settimeout(max(0.001, self.ends - time.monotonic()))
         count = self.connection.recv_into(data)
         self.received += count
@@ -135,7 +139,7 @@ class Handler(BaseHTTPRequestHandler):
         size = self.headers["Content-Length"] or ""
         if not re.fullmatch("[0-9]{1,8}", size) or int(size) > most:
             return None
-        self.asked.ends += int(size) >> 20
+        self.asked.ends, self.asked.most = self.asked.ends + (int(size) >> 20), self.asked.received + int(size)
         with self.server.reading(self.asked) if int(size) > MOST_MESSAGE else contextlib.nullcontext():
             body = self.rfile.read(int(size))
         return body if len(body) == int(size) else None
