@@ -52,6 +52,12 @@ class Growth(unittest.TestCase):
         with self.assertRaises(Misfit):
             self.grown(*steps)
 
+    def test_each_version_is_planned_once(self):
+        history = History(((4, competition(2)), (8, competition(2, 2))))
+        with mock.patch("ggp_tools.competition.growth.asked", wraps=asked) as plan:
+            grown(history, competition(3, 2), ROLES, nothing_known)
+        self.assertEqual([len(call.args[0].players) for call in plan.call_args_list], [2, 2, 3])
+
     def test_new_players_in_a_game_of_three_roles(self):
         before, after = competition(4, 1, ("three",)), competition(6, 1, ("three",))
         found = self.grown(before, after).matches

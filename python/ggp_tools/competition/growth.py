@@ -117,27 +117,6 @@ def new_players(before: Competition, after: Competition) -> list[str]:
     return [player.name for player in after.players if player.name not in known]
 
 
-def added(before: Competition, after: Competition, roles: Mapping[str, int], planned: Sequence[Match]) -> list[Seated]:
-    """Returns the matches that a version adds. Refuses a version that lacks a planned match."""
-    wanted, new = asked(after, roles), set(new_players(before, after))
-    shared = {game.name for game in before.games if new and roles[game.name] > 2 and after.form.lines == ()}
-    if shared and before.form.rounds != after.form.rounds:
-        raise Misfit(f"{min(shared)} has more than two roles, so add rounds and players one after the other, and plan in between")
-    known, found = Counter(asked(before, roles)), []
-    for game, players in wanted:
-        if game in shared:
-            found += [(game, players)] if new.intersection(players) else []
-        elif known[game, players]:
-            known[game, players] -= 1
-        else:
-            found.append((game, players))
-    for (game, players), count in known.items():
-        if count and game not in shared:
-            gone = [match.id for match in planned if (match.game, match.players) == (game, players)][-count:]
-            raise Misfit(f"{gone[0]} ({game} {' '.join(players)}) was planned, but is no longer among the matches")
-    return found
-
-
 class Growing:
     """A schedule that grows."""
 
@@ -147,6 +126,8 @@ class Growing:
         self.places: dict[str, int] = {}
         self.again = {order.match: order for order in history.again}
         self.rounds = Rounds()
+        # The matches that the last version asks for.
+        self.asked: list[Seated] = []
 
     def take(self, before: Competition | None, competition: Competition, until: Until, most: Until) -> None:
         """Plans the matches that a version adds, and its rematches, up to `until` matches. No round begins after `most` matches."""
@@ -158,12 +139,32 @@ class Growing:
                 self.add_all(competition, meetings(competition, found), found.number)
                 self.add_again(competition, until)
             return
-        found = asked(competition, self.roles) if before is None else added(before, competition, self.roles, self.matches)
+        known, self.asked = self.asked, asked(competition, self.roles)
+        found = self.asked if before is None else self.added(before, competition, Counter(known))
         self.width = self.width or len(str(len(found)))
         # A player that has withdrawn plays no further match.
         withdrawn = competition.withdrawn()
         self.add_all(competition, [(game, players) for game, players in found if withdrawn.keys().isdisjoint(players)])
         self.add_again(competition, until)
+
+    def added(self, before: Competition, after: Competition, known: Counter[Seated]) -> list[Seated]:
+        """Returns the matches that a version adds to the known ones. Refuses a version that lacks a known match."""
+        found, new = [], set(new_players(before, after))
+        shared = {game.name for game in before.games if new and self.roles[game.name] > 2 and after.form.lines == ()}
+        if shared and before.form.rounds != after.form.rounds:
+            raise Misfit(f"{min(shared)} has more than two roles, so add rounds and players one after the other, and plan in between")
+        for game, players in self.asked:
+            if game in shared:
+                found += [(game, players)] if new.intersection(players) else []
+            elif known[game, players]:
+                known[game, players] -= 1
+            else:
+                found.append((game, players))
+        for (game, players), count in known.items():
+            if count and game not in shared:
+                gone = [match.id for match in self.matches if (match.game, match.players) == (game, players)][-count:]
+                raise Misfit(f"{gone[0]} ({game} {' '.join(players)}) was planned, but is no longer among the matches")
+        return found
 
     def next_round(self, competition: Competition, most: Until = None) -> Round | None:
         """Returns the next round if the last one is over, or None. After `most` matches it returns only a round without matches, for example if all
@@ -179,11 +180,8 @@ class Growing:
 
     def of_round(self, number: int) -> list[Match]:
         """Returns the matches of the last round that count."""
-        return [match for match in self.matches[len(self.matches) - self.since(number) :] if not match.again] if number else []
-
-    def since(self, number: int) -> int:
-        """Returns how many matches were planned since a round began."""
-        return sum(1 for _ in itertools.takewhile(lambda match: match.round == number, reversed(self.matches)))
+        last = itertools.takewhile(lambda match: match.round == number, reversed(self.matches)) if number else ()
+        return [match for match in last if not match.again][::-1]
 
     def add_all(self, competition: Competition, found: Sequence[Seated], round_number: int = 0) -> None:
         refuse_too_many(competition, len(self.matches) + len(found))

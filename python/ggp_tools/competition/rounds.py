@@ -1,15 +1,5 @@
-"""The rounds of a Swiss competition and of a knockout: pairs the players of a round by the results of the earlier rounds.
-
-A pairing of two players has a match in each game for each order of the roles. A Swiss competition orders the players by points, then by Buchholz
-score (the points of all their opponents), then by seed, which is the order of competition.toml. From the top down, each player meets the next one
-that it has met least often. Then, from the bottom up, a pair that has met before swaps a player with the nearest pair above or else below, if that
-makes two pairs that have not met. If the number of players is odd, the last player with the fewest byes has a bye, which counts as if it had won all
-matches of a pairing. In a knockout the winner of each pairing advances: the player with more points, then with more goals, then with the better seed.
-The bracket is the usual one: the two best seeds can meet only in the final, and the best players get the byes. A knockout may follow the rounds of a
-Swiss competition: then the seeds are its standings.
-
-A player that has withdrawn is not paired any more. A match against it that does not count, or is not played, gives its opponent a point, as a bye
-does. In a knockout its opponent advances unless all matches of the pairing were played."""
+"""The rounds of a Swiss competition and of a knockout: pairs the players of a round by the results of the earlier rounds, as "Swiss and knockout" in
+docs/COMPETITION.md describes it. A pairing of two players has a match in each game for each order of the roles."""
 
 import itertools
 from collections import Counter, defaultdict
@@ -147,7 +137,6 @@ def exchange(pairs: list[tuple[str, str]], at: int, met: Counter[frozenset[str]]
 
 
 def swiss_round(competition: Competition, number: int, scores: Scores, withdrawn: Mapping[str, str]) -> Round:
-    """Returns the next round of a Swiss competition."""
     order = sorted((player.name for player in competition.players if player.name not in withdrawn), key=scores.swiss_order)
     byes: tuple[str, ...] = ()
     if len(order) % 2:

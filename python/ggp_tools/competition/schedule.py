@@ -83,32 +83,12 @@ def gauntlet(players: Sequence[str], one: str, roles: int, rounds: int) -> Itera
             yield (*opponents[:role], one, *opponents[role:])
 
 
-def mistakes_of_numbers(competition: Competition, roles: Mapping[str, int]) -> Iterator[Mistake]:
-    """Yields a mistake for each game or line whose roles do not fit the number of players."""
-    form, games = competition.form, {game.name: game for game in competition.games}
-    if form.kind == "schedule":
-        for line in form.lines:
-            name, *players = line.text.split()
-            if len(players) != roles[name]:
-                yield Mistake(line.line, "form.lines", f"{name} has {counted(roles[name], 'role')}, and the line names {counted(len(players), 'player')}")
-        return
-    for name, game in games.items():
-        if form.kind in ROUND_KINDS and roles[name] != 2:
-            yield Mistake(game.line, "games.file", f"the kind {form.kind} is for games of two roles, and {name} has {roles[name]}")
-        elif roles[name] > len(competition.players):
-            words = f"{name} has {counted(roles[name], 'role')}, and the competition has {counted(len(competition.players), 'player')}"
-            yield Mistake(game.line, "games.file", words)
-
-
-def pairings(competition: Competition, roles: Mapping[str, int]) -> Iterator[tuple[str, Sequence[str]]]:
+def pairings(competition: Competition, roles: Mapping[str, int]) -> Iterator[tuple[str, tuple[str, ...]]]:
     """Yields the game and the players of each match."""
     form, players = competition.form, [player.name for player in competition.players]
-    if form.kind == "schedule":
-        for line in form.lines:
-            name, *players = line.text.split()
-            yield name, players
-        return
-    for game in competition.games:
+    for name, *of_line in (line.text.split() for line in form.lines):
+        yield name, tuple(of_line)
+    for game in competition.games if form.kind != "schedule" else ():
         count = roles[game.name]
         matches = gauntlet(players, form.one, count, form.rounds) if form.kind == "gauntlet" else round_robin(players, count, form.rounds)
         yield from ((game.name, pairing) for pairing in matches)
@@ -119,12 +99,26 @@ def asked(competition: Competition, roles: Mapping[str, int]) -> list[tuple[str,
     refuse_numbers(competition, roles)
     matches = list(itertools.islice(pairings(competition, roles), MOST_MATCHES + 1))
     refuse_too_many(competition, len(matches))
-    return [(name, tuple(players)) for name, players in matches]
+    return matches
 
 
 def refuse_numbers(competition: Competition, roles: Mapping[str, int]) -> None:
-    """Refuses a competition whose players do not fit the roles of its games."""
-    if mistakes := list(mistakes_of_numbers(competition, roles)):
+    """Refuses games and lines whose roles do not fit the number of players."""
+    form, count, mistakes = competition.form, len(competition.players), []
+    for line in form.lines:
+        name, *players = line.text.split()
+        if len(players) != roles[name]:
+            words = f"{name} has {counted(roles[name], 'role')}, and the line names {counted(len(players), 'player')}"
+            mistakes.append(Mistake(line.line, "form.lines", words))
+    for game in competition.games if form.kind != "schedule" else ():
+        of_game = roles[game.name]
+        if form.kind in ROUND_KINDS and of_game != 2:
+            words = f"the kind {form.kind} is for games of two roles, and {game.name} has {of_game}"
+            mistakes.append(Mistake(game.line, "games.file", words))
+        elif of_game > count:
+            words = f"{game.name} has {counted(of_game, 'role')}, and the competition has {counted(count, 'player')}"
+            mistakes.append(Mistake(game.line, "games.file", words))
+    if mistakes:
         raise Mistaken(mistakes)
 
 

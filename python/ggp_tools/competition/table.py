@@ -1,8 +1,5 @@
-"""The table of a competition: the results of each player in each game and in all of them, the crosstable, and the ratings.
-
-It follows from the records. A player has won a match if its goal is higher than all others, lost it if another goal is higher, and drawn it
-otherwise. A match of one role, or without goals, is neither won, lost nor drawn. A player that has forfeited a match has lost it against each player
-that has not, whatever the goals are. Its goal counts as 0. A single opponent gets 100; several keep their goals, or share 100 if there are none."""
+"""The table of a competition: the results of each player in each game and in all of them, the crosstable, and the ratings. It follows from the
+records, as "The table" in docs/COMPETITION.md describes it."""
 
 import itertools
 import typing
