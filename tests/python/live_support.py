@@ -39,7 +39,7 @@ SILENT = Missed("TO (no answer in time: nothing received)")
 
 def look(reader: Reader) -> None:
     """Lets a reader read the directory."""
-    for _ in reader.look():
+    for _ in reader.update():
         pass
 
 

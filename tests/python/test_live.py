@@ -37,7 +37,7 @@ def shown(seen):
 def setUpModule():
     """On a busy computer, the referee and the reading of the records may take a long time. These tests do not wait for them."""
     unittest.enterModuleContext(patch.object(live, "READING", 1e9))
-    for share in ("SHARE", "JUDGING_SHARE"):
+    for share in ("SHARE", "REFEREE_SHARE"):
         unittest.enterModuleContext(patch.object(live, share, 0))
 
 
@@ -61,7 +61,7 @@ class InRoom(unittest.TestCase):
     def look(self, reader):
         """Lets a reader read the directory, and ask the referee."""
         look(reader)
-        reader.judge(NEVER)
+        reader.advance(NEVER)
 
     def play(self, number, moves, answers, roles=(0, 1)):
         """Returns the lines of a turn. Its messages have the moves of the turn before."""
@@ -71,16 +71,16 @@ class InRoom(unittest.TestCase):
 class Lines(InRoom):
     def test_whether_a_run_holds_the_folder(self):
         folder = self.plan.folder.path
-        self.assertFalse(live.is_held(folder))
+        self.assertFalse(live.is_locked(folder))
         with held(folder):
-            self.assertTrue(live.is_held(folder))
+            self.assertTrue(live.is_locked(folder))
             # If other locks disappear while the list is read, the list may lack a lock.
             for missed, is_held in ((4, True), (5, False)):
                 with patch.object(live, "locks", side_effect=[*[[]] * missed, live.locks()]):
-                    self.assertEqual(live.is_held(folder), is_held)
+                    self.assertEqual(live.is_locked(folder), is_held)
             # A directory on another disk may have the same inode number.
             with patch.object(live, "lock_place", lambda found: f"ff:fff:{os.stat(found).st_ino}"):
-                self.assertFalse(live.is_held(folder))
+                self.assertFalse(live.is_locked(folder))
 
     def test_what_is_no_file_holds_up_nothing(self):
         pipe, long, other = self.plan.matches[1:4]
@@ -318,25 +318,25 @@ class Lines(InRoom):
         begin(self.plan, self.plan.matches[1], started(self.plan.matches[1]))
         reader, asked = self.reader(), []
         look(reader)
-        with patch.object(live.Seen, "judge", lambda seen, _: asked.append(seen.match.id)), patch.object(live, "JUDGING_SHARE", 1e9):
-            reader.judge(time.monotonic() - 1)
+        with patch.object(live.LiveMatch, "advance", lambda seen, _: asked.append(seen.match.id)), patch.object(live, "REFEREE_SHARE", 1e9):
+            reader.advance(time.monotonic() - 1)
             self.assertEqual(asked, [])
-            reader.next_judging = 0
-            reader.judge(NEVER, {self.plan.matches[1].id})
+            reader.next_advance = 0
+            reader.advance(NEVER, {self.plan.matches[1].id})
             self.assertEqual(asked, [self.plan.matches[1].id, self.match.id])
-            reader.judge(NEVER)
+            reader.advance(NEVER)
             self.assertEqual(len(asked), 2)
 
     def test_a_fault_in_a_look_at_a_match_stops_no_other(self):
         begin(self.plan, self.match, started(self.match))
         begin(self.plan, self.plan.matches[1], started(self.plan.matches[1]))
         end(self.plan, self.plan.matches[2], record_of(self.plan.matches[2], [["noop", "noop"]], [["", ""]], [0, 100]))
-        reader, take = self.reader(), live.Seen.take
+        reader, take = self.reader(), live.LiveMatch.take
 
         def faulty(seen, *more):
             return take(seen, *more) if seen.match.id != self.match.id else 1 / 0
 
-        with patch.object(live.Seen, "take", faulty), patch.object(live, "counted_result", side_effect=KeyError("goal")):
+        with patch.object(live.LiveMatch, "take", faulty), patch.object(live, "counted_result", side_effect=KeyError("goal")):
             self.look(reader)
         self.assertEqual(reader.open[self.plan.matches[1].id].turn(), 1)
         said = now_part(reader, 0, 0).text
@@ -374,7 +374,7 @@ class States(InRoom):
             if isinstance(event, Message) and event.kind in ("START", "PLAY"):
                 board.take(event)
         if board.is_due():
-            board.judge(Referee(program()))
+            board.advance(Referee(program()))
         return board
 
     def heap(self, board):

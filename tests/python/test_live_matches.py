@@ -9,10 +9,10 @@ import threading
 
 import pytest
 
-from ggp_tools.competition.live import Extent, Room, Seen
+from ggp_tools.competition.live import LiveMatch, OpenFiles
 from ggp_tools.competition.live_board import LiveBoard
 from ggp_tools.competition.schedule import Match
-from ggp_tools.competition.tail import Tail
+from ggp_tools.competition.tail import Extent, Tail
 from ggp_tools.match_log import ENDS, Message, event_of
 from ggp_tools.referee import Referee
 from players import message_of
@@ -100,23 +100,24 @@ class Matches(InFolder):
         log, referee, count = self.folder / "log", Counting(program()), 0
         log.write_bytes(b"")
         board = LiveBoard(self.match, record["strikes"], self.folder / "rules")
-        seen = Seen(self.match, Tail(str(log), event_of), board)
+        seen = LiveMatch(self.match, Tail(str(log), event_of), board)
         messages = [event for event in map(event_of, lines) if isinstance(event, Message)]
         for line in lines:
             with open(log, "ab") as file:
                 file.write(line)
-            seen.look(Room("playing", Extent(log.stat().st_size)), 0.0)
+            seen.update(OpenFiles("playing", Extent(log.stat().st_size)), 0.0)
             count += isinstance(event_of(line), Message)
             if board.is_due():
-                seen.judge(referee)
+                seen.advance(referee)
             self.assertFalse(board.is_due())
             self.assert_shown(seen, messages[:count], messages[count:], record)
         self.assertEqual((board.position.moves, board.position.errors, board.position.states), (record["moves"], record["errors"], record["states"]))
-        self.assertEqual(seen.replaced_count, sum(bool(error) for errors in record["errors"] for error in errors))
+        total = sum(bool(error) for errors in record["errors"] for error in errors)
+        self.assertEqual([move.before for move in seen.replaced], list(range(max(0, total - 3), total)))
         # The first state, START and each turn.
         self.assertEqual(referee.asked, 2 + len(record["moves"]))
 
-    def assert_shown(self, seen: Seen, before: list[Message], after: list[Message], record: dict) -> None:
+    def assert_shown(self, seen: LiveMatch, before: list[Message], after: list[Message], record: dict) -> None:
         """Checks what is shown after this many messages were answered, using the later messages."""
         position, left = seen.board.position, set(map(round_of, after))
         turns = [turn for turn in range(1, len(record["moves"]) + 1) if turn not in left and 0 not in left]

@@ -47,13 +47,13 @@ class Served(unittest.TestCase):
         # On a busy computer, reading the records and asking the referee may take a long time. These tests do not wait for them, and do not fail
         # because of them.
         self.enterContext(patch.object(live, "clock", lambda: 1_000.0))
-        for name, value in (("SHARE", 0), ("JUDGING_SHARE", 0), ("READING", 1e9)):
+        for name, value in (("SHARE", 0), ("REFEREE_SHARE", 0), ("READING", 1e9)):
             self.enterContext(patch.object(live, name, value))
         for name, value in (("SHARE", 0), ("FOLLOW", 1e9)):
             self.enterContext(patch.object(live_site, name, value))
         self.plan = plan_in(self.enterContext(tempfile.TemporaryDirectory()), ["ann", "bob", "cid"], head=self.STRIKES)
         self.site = LiveSite(self.plan, Referee(program()), lambda: self.plan)
-        self.site.look()
+        self.site.update()
         begun = queue.Queue()
         thread = threading.Thread(target=lambda: asyncio.run(self.serve(begun)), daemon=True)
         thread.start()
@@ -78,7 +78,7 @@ class Served(unittest.TestCase):
         return asyncio.run_coroutine_threadsafe(called(), self.loop).result()
 
     def look(self):
-        self.in_loop(self.server.look)
+        self.in_loop(self.server.update)
 
     def ask(self, path, method="GET", **headers):
         """Sends a request. Returns the status and the text of the answer."""
@@ -261,7 +261,7 @@ class Pages(Served):
                 end(self.plan, match, good | wrong)
                 # `serve` begins with it, too.
                 self.site = self.server.site = LiveSite(self.plan, Referee(program()), lambda: self.plan)
-                self.site.look()
+                self.site.update()
                 first = self.page("/")
                 self.assertIn("1 of 6 matches are over.", first)
                 self.assertRegex(first, f"{match.id} does not count: .*{re.escape(said)}")
@@ -279,7 +279,7 @@ class Pages(Served):
             self.look()
             self.assertIn("6 records are not read yet, so the standings do not include them", self.page("/"))
             self.assertIn("0 of 6 matches are over.", self.page("/"))
-            self.site.reader.look_at_record(self.site.reader.unread.popleft())
+            self.site.reader.update_record(self.site.reader.unread.popleft())
             self.site.next_tables = 0.0
             self.look()
             # Ratings from a part of the records are not shown, and may take a long time.
@@ -551,7 +551,7 @@ class Delayed(Served):
             plans.append(dataclasses.replace(self.plan))
             self.site.read_plan = lambda: plans[-1]
             self.plan.folder.schedule.write_text("x" * at)
-            self.site.look()
+            self.site.update()
             self.assertIs(self.site.plan, self.plan if at < 2 else plans[at - 2])
 
     def test_a_round_that_was_paired_a_moment_ago_waits_also_for_a_server_that_begins_then(self):
@@ -563,10 +563,10 @@ class Delayed(Served):
         site = LiveSite(plan, Referee(program()), lambda: plan, delay=60)
         self.assertEqual((site.plan.matches, len(site.plan.rounds)), (matches[:4], 2))
         self.moment += 59
-        site.look_at_plan()
+        site.update_plan()
         self.assertEqual(site.plan.matches, matches[:4])
         self.moment += 1
-        site.look_at_plan()
+        site.update_plan()
         self.assertIs(site.plan, plan)
 
 
@@ -645,7 +645,7 @@ class Events(Served):
     def test_a_fault_in_a_look_is_said_and_the_next_look_goes_on(self):
         page = self.site.opened("/index.html")
         page.viewers += 1
-        with patch.object(self.site.reader, "look", side_effect=KeyError("a fault")), patch.object(sys, "stderr", io.StringIO()) as told:
+        with patch.object(self.site.reader, "update", side_effect=KeyError("a fault")), patch.object(sys, "stderr", io.StringIO()) as told:
             self.look()
             self.look()
         self.assertEqual(told.getvalue(), "ggp_competition: can't update the pages: KeyError('a fault')\n")

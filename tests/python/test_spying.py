@@ -59,7 +59,7 @@ class Spying(Served):
         self.site = self.server.site = LiveSite(self.plan, Referee(program()), lambda: self.plan)
         self.match = self.plan.matches[0]
         self.log = begin(self.plan, self.match)
-        self.site.look()
+        self.site.update()
 
     def all_pages(self):
         """Returns everything that `serve` sends, except for the time of day and the number of visitors."""
@@ -75,7 +75,7 @@ class Spying(Served):
         """Writes these answers of a round to the log one by one. Returns all pages after the last one."""
         # A board is drawn only after its page was opened once.
         self.all_pages()
-        self.site.look()
+        self.site.update()
         before = self.all_pages()
         events = [self.events(before[path]) for path in ("/", f"/matches/{self.match.id}.html")]
         for text in lines[:-1]:
@@ -115,7 +115,7 @@ class Spying(Served):
             self.say(self.log, self.lines(2, f"(PLAY {self.match.id} NIL)", [filled(answer, 1, 0)])[0])
             seen = self.site.reader.open[self.match.id]
             seen.since = seen.began = 0.0
-            self.site.look()
+            self.site.update()
             pages = self.all_pages()
             self.assertIn(f"{self.match.players[1]}</a>, <a", pages[f"/matches/{self.match.id}.html"])
             shown.add(re.sub("after=[^\"]*|zq1x0|cid</a>|, [0-9] ms", "", str(pages)).replace("zq1", ""))
@@ -233,8 +233,8 @@ class Watched:
             journal.write(f"2026-01-02T03:04:05.000Z restart {self.plan.matches[1].id} {self.plan.matches[0].players[0]}: process 7, port 8\n")
 
     def look(self, is_judged):
-        self.site.reader.next_judging = 0.0 if is_judged else float("inf")
-        self.site.look()
+        self.site.reader.next_advance = 0.0 if is_judged else float("inf")
+        self.site.update()
         assert not self.site.reader.troubles_of_matches()
 
     def served(self):
@@ -262,7 +262,7 @@ class Whatever(InFolder):
 
         with contextlib.ExitStack() as patches:
             for module, name, value in (
-                (live, "clock", clock), (live, "SHARE", 0), (live, "JUDGING_SHARE", 0), (live_site, "FOLLOW", 1e9),
+                (live, "clock", clock), (live, "SHARE", 0), (live, "REFEREE_SHARE", 0), (live_site, "FOLLOW", 1e9),
                 (live_board, "MOST_OF_SCRIPT", most_of_script), (live.time, "time", lambda: self.moment),
             ):
                 patches.enter_context(patch.object(module, name, value))

@@ -25,18 +25,18 @@ HARMLESS = "name"
 def values_of(text: str) -> dict[str, object]:
     """Returns values for macros by the names of their arguments. This text stands in for every text from outside."""
     match = Value(id=text, game=text, players=(text, text), start=1, play=2)
-    seen = Value(players=((text, text), (text, text)), text=text, since=1.0, clock=text, is_of_players=True, mover=text)
+    status = Value(players=((text, text), (text, text)), text=text, since=1.0, clock=text, is_of_players=True, mover=text)
     found = Value(boards=markupsafe.Markup("<p>made</p>"), terms=[text, text], before={text}, gone=[text], is_empty=True, more=2)
     html = markupsafe.Markup("<p>made</p>")
     texts = [text, text]
     numbers = dict.fromkeys(("count", "of_all", "shown", "waiting", "lost", "open", "unread", "turn", "turns", "number", "more", "mean", "moment"), 2)
-    numbers |= dict.fromkeys(("x", "y", "width", "height", "radius"), 3) | {"is_ground": False, "is_held": False}
+    numbers |= dict.fromkeys(("x", "y", "width", "height", "radius"), 3) | {"is_ground": False, "is_running": False}
     made = dict.fromkeys(("plot", "boards", "state", "control"), html)
     lists = dict.fromkeys(("notes", "remarks", "lines", "left_out", "ids", "terms", "now", "gone", "heads", "games", "roles", "names", "across"), texts)
-    pairs = {"missed": [(text, 1)], "replaced": [(text, 1)], "spans": [(text, text), ("other", text)], "players": seen.players}
+    pairs = {"missed": [(text, 1)], "replaced": [(text, 1)], "spans": [(text, text), ("other", text)], "players": status.players}
     pairs["moves"] = [Value(text=text, error=error, why=text, is_idle=is_idle) for error, is_idle in ((text, False), ("", True), ("", False))]
     others = {"seats": [(text, text, True), (text, text, False)], "marks": [Value(text=text, side=text)] * 2, "matches": [match]}
-    others |= {"match": match, "seen": seen, "found": found, "clocks": match, "player_text": text.encode("utf-8", "replace"), "up": texts}
+    others |= {"match": match, "status": status, "found": found, "clocks": match, "player_text": text.encode("utf-8", "replace"), "up": texts}
     return numbers | made | lists | pairs | others
 
 

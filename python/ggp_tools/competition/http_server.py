@@ -127,7 +127,7 @@ class Server:
         # A lock for each client that waits for a thread, and one for the pages that follow from results, which take longer than the others.
         self.turns: weakref.WeakValueDictionary[str, asyncio.Lock] = weakref.WeakValueDictionary()
         self.long_turn = asyncio.Lock()
-        self.looked = asyncio.Event()
+        self.updated = asyncio.Event()
 
     async def begin(self, address: str, port: int) -> tuple[str, int]:
         """Begins to serve, and returns the address and the port."""
@@ -156,7 +156,7 @@ class Server:
             found = await self.on_site(function, path)
             return await asyncio.get_running_loop().run_in_executor(self.other_thread, found) if callable(found) else found
 
-    async def look(self) -> None:
+    async def update(self) -> None:
         """Reads the directory, and wakes the connections whose page has changed."""
         try:
             steps = self.site.steps()
@@ -167,13 +167,13 @@ class Server:
             if repr(why) != self.reported:
                 self.reported = repr(why)
                 print(f"ggp_competition: can't update the pages: {self.reported}", file=sys.stderr)
-        looked, self.looked = self.looked, asyncio.Event()
-        looked.set()
+        updated, self.updated = self.updated, asyncio.Event()
+        updated.set()
 
     async def watch(self) -> None:
         while True:
             await asyncio.sleep(0 if self.site.reader.unread else INTERVAL)
-            await self.look()
+            await self.update()
 
     # ---- requests
 
@@ -273,7 +273,7 @@ class Server:
             with contextlib.suppress(TimeoutError):
                 async with asyncio.timeout(ALIVE):
                     while found.version == version and not found.is_final and stays():
-                        await self.looked.wait()
+                        await self.updated.wait()
             texts, version, is_last = found.news(version)
             async with asyncio.timeout(PATIENCE):
                 await response.write(b"".join(texts) or b": still there\n\n")

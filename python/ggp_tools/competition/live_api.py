@@ -5,7 +5,7 @@ import json
 import re
 
 from ggp_tools.competition.files import PLAYING
-from ggp_tools.competition.live import Reader, Seen
+from ggp_tools.competition.live import LiveMatch, Reader
 from ggp_tools.competition.live_pages import status_of
 from ggp_tools.competition.results import result_keys
 from ggp_tools.competition.schedule import Match
@@ -21,10 +21,10 @@ TABLE = ""
 Keys = dict[str, object]
 
 
-def stage_of(seen: Seen) -> str:
-    if seen.stage != PLAYING:
-        return seen.stage
-    return "stopping" if seen.is_ending() else "playing" if seen.turn() else "starting"
+def stage_of(live_match: LiveMatch) -> str:
+    if live_match.stage != PLAYING:
+        return live_match.stage
+    return "stopping" if live_match.is_ending() else "playing" if live_match.turn() else "starting"
 
 
 def state_keys(reader: Reader, match: Match) -> Keys:
@@ -32,9 +32,9 @@ def state_keys(reader: Reader, match: Match) -> Keys:
     if result := reader.results.get(match.id):
         outcomes, replaced = zip(*((result.outcome(role), result.replaced(role)) for role in range(len(match.players))))
         return {"state": "over", **result_keys(result), "outcomes": outcomes, "replaced": replaced}
-    if seen := reader.open.get(match.id):
-        status = status_of(seen, reader.plan.roles(match.game))
-        return {"state": "open", "stage": stage_of(seen), "turns": len(seen.board.position.moves), "since": status.since, "awaited": status.players}
+    if live_match := reader.open.get(match.id):
+        status, turns = status_of(live_match, reader.plan.roles(match.game)), len(live_match.board.position.moves)
+        return {"state": "open", "stage": stage_of(live_match), "turns": turns, "since": status.since, "awaited": status.players}
     why = reader.faults.get(match.id) or reader.given_up.get(match.id)
     return {"state": "given up", "why": why} if why else {"state": "waiting"}
 
@@ -60,12 +60,12 @@ def numbered(states: list[list[str]], turns: int) -> list[Keys]:
 
 def own_keys(reader: Reader, match: Match) -> Keys:
     """Returns all keys of a match, except those of `record_keys`."""
-    said = {}
-    if (seen := reader.open.get(match.id)) and match.id not in reader.results:
-        position = seen.board.position
-        said = {"states": numbered(position.states, len(position.moves)), "moves": position.moves, "errors": position.errors}
-        said |= {"messages": seen.messages(), "trouble": seen.board.trouble}
-    return {**match_keys(reader, match), "roles": reader.plan.roles(match.game), "start": match.start, "play": match.play, **said}
+    keys = {**match_keys(reader, match), "roles": reader.plan.roles(match.game), "start": match.start, "play": match.play}
+    if (live_match := reader.open.get(match.id)) and match.id not in reader.results:
+        position = live_match.board.position
+        keys |= {"states": numbered(position.states, len(position.moves)), "moves": position.moves, "errors": position.errors}
+        keys |= {"messages": live_match.messages(), "trouble": live_match.board.trouble}
+    return keys
 
 
 def record_keys(reader: Reader, match: Match) -> Keys:
@@ -80,8 +80,8 @@ def record_keys(reader: Reader, match: Match) -> Keys:
 
 def snapshot(reader: Reader, table: object) -> Keys:
     """Returns the data of the event stream: the keys or results of the matches that do not wait, and the table's version under an empty name."""
-    named = [*reader.open, *reader.given_up, *reader.faults]
-    return {TABLE: table, **{name: match_keys(reader, reader.known[name]) for name in named if name in reader.known}, **reader.results}
+    names = [*reader.open, *reader.given_up, *reader.faults]
+    return {TABLE: table, **{name: match_keys(reader, reader.known[name]) for name in names}, **reader.results}
 
 
 def news(reader: Reader, old: Keys, new: Keys) -> Keys | None:
@@ -101,16 +101,16 @@ def metrics(reader: Reader, table: Table) -> bytes:
     lost = sum(name not in reader.results and name not in reader.open for name in reader.given_up.keys() | reader.faults.keys())
     counts = {"open": len(reader.open), "over": len(reader.results), "given up": lost}
     counts["waiting"] = len(reader.known) - sum(counts.values())
-    found = {"play_running": {"": int(reader.is_held)}, "records_unread": {"": len(reader.unread)}}
-    found["matches"] = {f'{{state="{state}"}}': count for state, count in counts.items()}
+    numbers = {"play_running": {"": int(reader.is_running)}, "records_unread": {"": len(reader.unread)}}
+    numbers["matches"] = {f'{{state="{state}"}}': count for state, count in counts.items()}
     for name in ("matches", "moves", "replaced"):
-        found[f"player_{name}"] = {f'{{player="{line.player}"}}': getattr(line, name) for line in table.lines.values()}
-    return metrics_text(found)
+        numbers[f"player_{name}"] = {f'{{player="{line.player}"}}': getattr(line, name) for line in table.lines.values()}
+    return metrics_text(numbers)
 
 
-def metrics_text(found: dict[str, dict[str, int]]) -> bytes:
+def metrics_text(numbers: dict[str, dict[str, int]]) -> bytes:
     """Returns numbers in Prometheus's text format. They are given by name and by label."""
-    rows = (f"ggp_{name}{label} {value}\n" for name, values in found.items() for label, value in values.items())
+    rows = (f"ggp_{name}{label} {value}\n" for name, values in numbers.items() for label, value in values.items())
     return "".join(rows).encode("ascii")
 
 

@@ -110,10 +110,10 @@ class LiveBoard:
         return not self.is_stuck and (not self.position.states or self.is_finished(self.position.round()))
 
     def is_due(self) -> bool:
-        """Returns whether `judge` would change something."""
+        """Returns whether `advance` would change something."""
         return self.is_known_further() or not self.trouble and self.lacks_line()
 
-    def judge(self, referee: Referee) -> dict[int, Answers]:
+    def advance(self, referee: Referee) -> dict[int, Answers]:
         """Asks the referee for the moves of the finished rounds. Returns the answers in these rounds."""
         done, before = {}, (self.position, self.trouble)
         # A recorded round shows which roles are retired, and therefore which later rounds are finished.

@@ -2,11 +2,10 @@
 
 import dataclasses
 import datetime
-import itertools
 import typing
 
 from ggp_tools.competition.competition_file import Competition
-from ggp_tools.competition.live import Reader, Seen
+from ggp_tools.competition.live import LiveMatch, Reader
 from ggp_tools.competition.live_board import Turn
 from ggp_tools.competition.page_parts import Item, Items, PageParts, Part, html_of, list_part, rows_part
 from ggp_tools.competition.player_pages import reason_of
@@ -50,44 +49,49 @@ def live_part(name: str, macro: str = "", /, **values: object) -> Part:
     return Part(name, html_of("live", macro or name, **values))
 
 
-def status_of(seen: Seen, roles: tuple[str, ...]) -> Status:
-    if seen.stage in STAGES:
-        return Status(STAGES[seen.stage], seen.since)
-    found, mover = seen.named(), seen.board.position.mover()
-    what = "the last message" if seen.is_ending() else f"turn {seen.turn()}" if seen.turn() else "START"
-    if seen.is_over() or found == []:
-        return Status("all have answered", seen.since)
-    if found is None:
-        return Status(f"the answers to {what}", seen.since, True)
-    players = tuple(seen.match.players[role] for role in found)
-    return Status("", seen.since, False, players, roles[mover]) if found == [mover] else Status(what, seen.since, True, players)
+def status_of(live_match: LiveMatch, roles: tuple[str, ...]) -> Status:
+    if live_match.stage in STAGES:
+        return Status(STAGES[live_match.stage], live_match.since)
+    named, mover = live_match.named(), live_match.board.position.mover()
+    what = "the last message" if live_match.is_ending() else f"turn {live_match.turn()}" if live_match.turn() else "START"
+    if live_match.is_over() or named == []:
+        return Status("all have answered", live_match.since)
+    if named is None:
+        return Status(f"the answers to {what}", live_match.since, True)
+    players = tuple(live_match.match.players[role] for role in named)
+    if named == [mover]:
+        return Status("", live_match.since, False, players, roles[mover])
+    return Status(what, live_match.since, True, players)
 
 
-def open_row(seen: Seen, roles: tuple[str, ...]) -> Item:
+def open_row(live_match: LiveMatch, roles: tuple[str, ...]) -> Item:
     """Returns the row of an open match."""
-    missed = [(seen.match.players[role], count) for role, count in sorted(seen.missed.items())]
-    turn = seen.turn() if seen.stage == "playing" else ""
-    return f"open-{seen.match.id}", html_of("live", "open_row", match=seen.match, turn=turn, seen=status_of(seen, roles), missed=missed)
+    match = live_match.match
+    missed = [(match.players[role], count) for role, count in sorted(live_match.missed.items())]
+    turn = live_match.turn() if live_match.stage == "playing" else ""
+    return f"open-{match.id}", html_of("live", "open_row", match=match, turn=turn, status=status_of(live_match, roles), missed=missed)
 
 
 def state_html(states: list[list[str]], roles: tuple[str, ...], named: Named, notes: list[str]) -> "Markup":
     """Returns the last state as HTML, if there is one."""
-    found = last_state(states, roles, named)
-    more = max(0, len(found["terms"]) - MOST_TERMS) if found else 0
-    shown = found and {**found, "terms": found["terms"][:MOST_TERMS], "gone": found["gone"][:MOST_TERMS], "more": more}
+    state = last_state(states, roles, named)
+    more = max(0, len(state["terms"]) - MOST_TERMS) if state else 0
+    shown = state and {**state, "terms": state["terms"][:MOST_TERMS], "gone": state["gone"][:MOST_TERMS], "more": more}
     return html_of("live", "state", found=shown, notes=notes)
 
 
-def board_item(seen: Seen, state: "Markup", roles: tuple[str, ...]) -> Item:
+def board_item(live_match: LiveMatch, state: "Markup", roles: tuple[str, ...]) -> Item:
     """Returns the board of an open match on the first page."""
-    name, turn = f"board-{seen.match.id}", len(seen.board.position.moves)
-    return name, html_of("live", "board", name=name, match=seen.match, roles=roles, turn=turn, seen=status_of(seen, roles), said="", state=state)
+    match, turn = live_match.match, len(live_match.board.position.moves)
+    name, status = f"board-{match.id}", status_of(live_match, roles)
+    return name, html_of("live", "board", name=name, match=match, roles=roles, turn=turn, status=status, result="", state=state)
 
 
 def last_board_item(result: Result, state: "Markup", roles: tuple[str, ...]) -> Item:
     """Returns the last state of a finished match, with its result."""
-    name, said = f"board-{result.match.id}", winner_words(result) or "It is over."
-    return name, html_of("live", "board", name=name, match=result.match, roles=roles, turn=result.turns, seen=None, said=said, state=state)
+    match, text = result.match, winner_words(result) or "It is over."
+    name = f"board-{match.id}"
+    return name, html_of("live", "board", name=name, match=match, roles=roles, turn=result.turns, status=None, result=text, state=state)
 
 
 def restart_words(player: str, restarts: tuple[int, str]) -> str:
@@ -103,29 +107,28 @@ def now_part(reader: Reader, waiting: int, given_up: int) -> Part:
     if reader.restarted:
         lines.append("; ".join(restart_words(*restart) for restart in reader.restarted.items()))
     counts = {"open": len(reader.open), "waiting": waiting, "lost": given_up}
-    return live_part("now", is_held=reader.is_held, unread=len(reader.unread), lines=lines, **counts)
+    return live_part("now", is_running=reader.is_running, unread=len(reader.unread), lines=lines, **counts)
 
 
 def replaced_part(replaced: list[tuple[Replaced, int]]) -> Part:
     """Returns the last replaced moves, the newest first, with the numbers of earlier ones of their matches that are not listed."""
-    rows = [(entry, before, reason_of(entry.error), entry.error.partition(" ")[2]) for entry, before in replaced]
-    return live_part("replaced", rows=rows, said=REPLACED)
+    rows = [(move, before, reason_of(move.error), move.error.partition(" ")[2]) for move, before in replaced]
+    return live_part("replaced", rows=rows, intro=REPLACED)
 
 
 def live_parts(reader: Reader, boards: list[Item]) -> PageParts:
     """Returns the parts of the first page about the matches that are not over."""
     left, why = reader.waiting(), reader.given_up
-    given_up = [(match, why[match.id]) for match in left if match.id in why] if why else []
-    waiting = ((match, "") for match in left if match.id not in why)
-    count, first = len(left) - len(given_up), list(itertools.islice(waiting, QUEUE))
-    rows = [open_row(seen, reader.plan.roles(seen.match.game)) for seen in reader.open_matches()]
+    given_up = [(match, why[match.id]) for match in left if match.id in why]
+    waiting = [(match, "") for match in left if match.id not in why]
+    rows = [open_row(live_match, reader.plan.roles(live_match.match.game)) for live_match in reader.open.values()]
     return [
-        now_part(reader, count, len(given_up)),
+        now_part(reader, len(waiting), len(given_up)),
         Items("boards", '<div class="boards" id="boards">', tuple(boards), "</div>"),
         rows_part("open", "Open matches", OPEN_HEADS, rows, "No match is open."),
-        list_part("given-up", "Matches that were given up", "The next run of play plays them again.", given_up[:QUEUE], len(given_up[QUEUE:])),
+        list_part("given-up", "Matches that were given up", "The next run of play plays them again.", given_up, QUEUE),
         replaced_part(reader.last_replaced()),
-        list_part("queue", "Waiting matches", "Each match begins when all of its players are free.", first, count - len(first)),
+        list_part("queue", "Waiting matches", "Each match begins when all of its players are free.", waiting, QUEUE),
     ]
 
 
@@ -142,25 +145,27 @@ def turn_row(turn: Turn) -> Item:
     return f"turn-{turn.number}", html_of("live", "turn_row", number=turn.number, moves=moves)
 
 
-def answers_part(seen: Seen) -> Part:
+def answers_part(live_match: LiveMatch) -> Part:
     """Returns the last answer of each role in a finished round."""
-    rows = [(seen.match.players[role], shown(said.message), shown(said.came()), said.ms) for role, said in sorted(seen.last.items())]
+    answers = sorted(live_match.last.items())
+    rows = [(live_match.match.players[role], shown(answer.message), shown(answer.came()), answer.ms) for role, answer in answers]
     return live_part("answers", rows=rows) if rows else Part("answers", "")
 
 
-def open_match_parts(seen: Seen, state: "Markup", head: Part, roles: tuple[str, ...]) -> PageParts:
+def open_match_parts(live_match: LiveMatch, state: "Markup", head: Part, roles: tuple[str, ...]) -> PageParts:
     """Returns the page of a match that is open."""
-    turns, mover = [turn_row(past) for past in reversed(seen.board.turns())], seen.board.position.mover()
+    board = live_match.board
+    turns, mover = [turn_row(turn) for turn in reversed(board.turns())], board.position.mover()
     return [
         head,
-        live_part("now", "match_now", seen=status_of(seen, roles)),
-        live_part("state", "match_state", turn=len(seen.board.position.moves), mover="" if mover is None else roles[mover], state=state),
+        live_part("now", "match_now", status=status_of(live_match, roles)),
+        live_part("state", "match_state", turn=len(board.position.moves), mover="" if mover is None else roles[mover], state=state),
         rows_part("turns", "Last turns", ["turn", *roles], turns, "No turn is over.", html_of("boards", "idle_too")),
-        answers_part(seen),
+        answers_part(live_match),
     ]
 
 
 def waiting_match_parts(fault: str, given_up: str, head: Part) -> PageParts:
     """Returns the page of a match that is neither open nor over."""
-    said = f"Its record does not count: {fault}" if fault else f"It was given up: {given_up}." if given_up else "It has not begun."
-    return [head, live_part("now", "waiting", text=said)]
+    text = f"Its record does not count: {fault}" if fault else f"It was given up: {given_up}." if given_up else "It has not begun."
+    return [head, live_part("now", "waiting", text=text)]

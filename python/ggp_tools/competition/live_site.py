@@ -12,11 +12,12 @@ import typing
 from collections import OrderedDict, deque
 from collections.abc import Callable, Iterator
 from dataclasses import dataclass, replace
+from operator import itemgetter
 
 from ggp_tools.answers import game_of
 from ggp_tools.competition import live, live_api, live_pages
 from ggp_tools.competition.files import Folder, Refused
-from ggp_tools.competition.live import Delay, Reader, Seen, for_visitors, identity_of
+from ggp_tools.competition.live import Delay, LiveMatch, Reader, for_visitors, identity_of
 from ggp_tools.competition.page_parts import PageParts, changes, event_text
 from ggp_tools.competition.pages import PageOf, Site, pages_of, titled
 from ggp_tools.competition.plan import Plan
@@ -31,16 +32,17 @@ from ggp_tools.templating import page
 if typing.TYPE_CHECKING:
     from markupsafe import Markup
 
-# The tables are computed for at most a tenth of the time, and each look follows boards for at most FOLLOW seconds.
+# The tables are computed for at most a tenth of the time, and each update follows boards for at most FOLLOW seconds.
 SHARE, FOLLOW = 10, 0.25
 # For how long a page without viewers is kept, how many pages are kept, and how many changes of a page, with how many bytes.
 IDLE, MOST_PAGES, MOST_EVENTS, BYTES_OF_EVENTS = 30.0, 200, 60, 1 << 20
 # How many bytes of pages of finished matches are kept. A browser without JavaScript reloads a page after this many seconds.
 MOST_KEPT, RELOAD = 64 << 20, 10
-# How many bytes of records of long matches are kept parsed. The last record is always kept.
+# How many bytes of records are kept parsed, because the page of a long match has several parts.
 MOST_PARSED = 16 << 20
 # A function that the other thread calls.
 Work = Callable[[], bytes | None]
+Value = typing.TypeVar("Value")
 FIRST, MATCH = "/index.html", re.compile(r"/matches/([A-Za-z0-9_.-]+)\.html")
 # The page of a match that is over, or a part of it if the match is long.
 OVER = re.compile(r"/matches/([A-Za-z0-9_.-]+)(?:~([1-9][0-9]{0,4}))?\.html")
@@ -53,7 +55,7 @@ def plan_stamp(folder: Folder) -> tuple:
 
 def without_new_rounds(plan: Plan, seconds: float) -> Plan:
     """Returns a plan without the rounds whose pairings follow from record files that are younger than this."""
-    for number in [found.number for found in plan.rounds[1:]] if seconds else ():
+    for number in [planned.number for planned in plan.rounds[1:]] if seconds else ():
         files = [plan.folder.record(match.id) for match in plan.matches if match.round == number - 1]
         if any(file.stat().st_mtime > time.time() - seconds for file in files if file.exists()):
             matches = [match for match in plan.matches if match.round < number]
@@ -64,10 +66,10 @@ def without_new_rounds(plan: Plan, seconds: float) -> Plan:
 def reason_for_visitors(folder: Folder, why: Exception) -> str:
     """Returns why a plan can't be read, without paths of this computer."""
     if isinstance(why, OSError):
-        words = f"{why.filename or 'a file'}: {why.strerror}"
+        reason = f"{why.filename or 'a file'}: {why.strerror}"
     else:
-        words = str(why.words) if isinstance(why, Refused) else "the referee program can't be run"
-    return for_visitors(folder, words)
+        reason = why.words if isinstance(why, Refused) else "the referee program can't be run"
+    return for_visitors(folder, reason)
 
 
 @dataclass
@@ -87,6 +89,9 @@ class OpenPage:
     def version(self) -> int:
         return self.events[-1][0]
 
+    def is_idle(self, now: float) -> bool:
+        return not self.viewers and now - self.touched > IDLE
+
     def news(self, version: int) -> tuple[list[bytes], int, bool]:
         """Returns the changes since a version, the version that they lead to, and whether nothing more will change. If these changes are no longer
         kept, the page must be reloaded."""
@@ -96,41 +101,49 @@ class OpenPage:
         return [text for number, text in events if number > version], events[-1][0], False
 
 
+class Cache(typing.Generic[Value]):
+    """The values that were used last, with at most this many bytes together, or only one. Threads may share it."""
+
+    def __init__(self, most: int, size_of: Callable[[Value], int]) -> None:
+        self.most, self.size_of, self.lock = most, size_of, threading.Lock()
+        # Each value has the data that it was made from.
+        self.values: OrderedDict[str, tuple[object, Value]] = OrderedDict()
+
+    def get(self, name: str, made_of: object, make: Callable[[], Value]) -> Value:
+        """Returns the value that was made from this data, or makes it."""
+        with self.lock:
+            known, value = self.values.pop(name, (None, None))
+        if value is None or known != made_of:
+            value = make()
+        with self.lock:
+            self.values[name] = made_of, value
+            while len(self.values) > 1 and sum(self.size_of(other) for _, other in self.values.values()) > self.most:
+                self.values.popitem(last=False)
+        return value
+
+
 class SiteOfShown(Site):
     """The pages of the results that are shown, although other files may replace those of the results at any time."""
 
     def __init__(self, plan: Plan, reader: Reader) -> None:
         super().__init__(plan)
         self.reader, self.ended = reader, reader.over
-        # How many parts the page of each match has, and the last records with several parts, each with its number of bytes.
-        self.part_counts: dict[str, tuple[Result, int]] = {}
-        self.parsed: OrderedDict[str, tuple[Result, dict, int]] = OrderedDict()
-        # Pages and JSON of matches and tables, by path, each with the data that it was made from. Both threads use them.
-        self.kept: OrderedDict[str, tuple[object, bytes]] = OrderedDict()
-        self.lock = threading.Lock()
+        # Pages and JSON of matches and tables by path, and records with their numbers of bytes by match.
+        self.kept: Cache[bytes] = Cache(MOST_KEPT, len)
+        self.records: Cache[tuple[dict, int]] = Cache(MOST_PARSED, itemgetter(1))
 
     def part_of_match(self, result: Result, number: int) -> bytes:
         """Returns a part of the page of a match, counted from 1; 0 is the last one."""
-        known, count = self.part_counts.get(result.match.id, (None, 0))
-        record = self.record_of(result) if known is not result or number <= count else None
-        if number > self.part_counts[result.match.id][1]:
+        match = result.match
+        record, _ = self.records.get(match.id, self.reader.identities.get(match.id), lambda: self.read_record(match))
+        if number > len(parts_of(record["states"])):
             raise NoRecord("its page has no such part")
         head, _, rules, answers, named, winner = self.match_work(result, b"")
         return page_of(record, (lambda: game_of(rules)) if rules else None, answers, Frame(head, named, winner, number - 1))
 
-    def record_of(self, result: Result) -> dict:
-        """Returns the record of a match, counts the parts of its page, and keeps the record if there are several."""
-        name = result.match.id
-        known, record, size = self.parsed.pop(name, (None, {}, 0))
-        if known is not result:
-            data = self.plan.read_record(result.match)
-            record, size = read_record(data), len(data)
-            self.part_counts[name] = result, len(parts_of(record["states"]))
-        if self.part_counts[name][1] > 1:
-            self.parsed[name] = result, record, size
-        while len(self.parsed) > 1 and sum(size for _, _, size in self.parsed.values()) > MOST_PARSED:
-            self.parsed.popitem(last=False)
-        return record
+    def read_record(self, match: Match) -> tuple[dict, int]:
+        data = self.plan.read_record(match)
+        return read_record(data), len(data)
 
     def data_of_match(self, path: str, match: Match, make: Callable[[], bytes]) -> bytes | None:
         """Returns the data that `make` makes of a match that is over, or None if other files have replaced those that are shown."""
@@ -141,21 +154,9 @@ class SiteOfShown(Site):
             return data
 
         try:
-            return self.kept_data(path, self.reader.identities.get(match.id), made)
+            return self.kept.get(path, self.reader.identities.get(match.id), made)
         except (OSError, NoRecord):
             return None
-
-    def kept_data(self, path: str, made_of: object, make: Callable[[], bytes]) -> bytes:
-        """Returns the data that `make` makes, and keeps it for a while."""
-        with self.lock:
-            known, data = self.kept.pop(path, (None, b""))
-        if known != made_of or not data:
-            data = make()
-        with self.lock:
-            self.kept[path] = made_of, data
-            while sum(len(kept) for _, kept in self.kept.values()) > MOST_KEPT:
-                self.kept.popitem(last=False)
-        return data
 
 
 class LiveSite:
@@ -186,14 +187,14 @@ class LiveSite:
 
     # ---- reading the directory
 
-    def look(self) -> None:
+    def update(self) -> None:
         """Reads new files, and renews the pages that somebody has open."""
         deque(self.steps(), 0)
 
     def steps(self) -> Iterator[bool]:
-        """Does the work of `look` in steps, so that other pages can be made between them."""
-        self.look_at_plan()
-        for _ in self.reader.look():
+        """Does the work of `update` in steps, so that other pages can be made between them."""
+        self.update_plan()
+        for _ in self.reader.update():
             # A plan that has just been read has no pages yet.
             if self.made:
                 yield True
@@ -207,7 +208,7 @@ class LiveSite:
             yield from self.renew_pages()
 
     def fail(self, why: Exception) -> None:
-        """Shows on the pages that a look has failed. The next one may succeed; until then the pages stay as they are."""
+        """Shows on the pages that an update has failed. The next one may succeed; until then the pages stay as they are."""
         self.fault = f"These pages may be out of date because of an error in ggp_competition: {why!r}"
         self.reader.version += 1
         with contextlib.suppress(Exception):
@@ -216,18 +217,18 @@ class LiveSite:
     def renew_pages(self) -> Iterator[bool]:
         """Renews the pages that somebody has open. If one can't be made, the others still are."""
         faults = []
-        for path, found in list(self.pages.items()):
+        for path, page in list(self.pages.items()):
             yield True
             try:
-                if found.viewers:
-                    self.renew(path, found)
+                if page.viewers:
+                    self.renew(path, page)
             except Exception as why:
-                found.stamp = ()
+                page.stamp = ()
                 faults.append(why)
         if faults:
             raise faults[0]
 
-    def look_at_plan(self) -> None:
+    def update_plan(self) -> None:
         """Reads the plan if it has changed. Starts again if the plan had changed by the moment that is shown."""
         stamp = plan_stamp(self.plan.folder)
         if stamp != self.plan_stamp:
@@ -237,16 +238,15 @@ class LiveSite:
             except (Refused, NoReferee, Unchecked, OSError) as why:
                 # The person who runs `serve` gets the whole message.
                 print(f"ggp_competition: the plan has changed, but can't be read, so the pages show the previous one: {why}", file=sys.stderr)
-                said = reason_for_visitors(self.plan.folder, why)
-                trouble = f"The plan has changed, but can't be read, so these pages show the previous plan: {said}"
-                self.plans.append((live.clock(), trouble))
+                reason = reason_for_visitors(self.plan.folder, why)
+                self.plans.append((live.clock(), f"The plan has changed, but can't be read, so these pages show the previous plan: {reason}"))
         while self.plans and self.plans[0][0] <= live.clock() - self.delay.seconds:
             _, plan = self.plans.pop(0)
             if isinstance(plan, str):
                 self.trouble = plan
                 continue
-            for found in self.pages.values():
-                found.is_final = True
+            for page in self.pages.values():
+                page.is_final = True
             self.pages = OrderedDict()
             self.begin(plan)
 
@@ -267,11 +267,10 @@ class LiveSite:
     def follow(self) -> None:
         """Follows the open matches for a while, first those that somebody watches."""
         now = time.monotonic()
-        looked = {path for path, found in self.pages.items() if found.viewers or now - found.touched < IDLE}
-        shown = self.reader.open_matches()[: live_pages.BOARDS] if "/index.html" in looked else []
-        names = {found[1] for found in map(MATCH.fullmatch, looked) if found}
-        self.reader.judge(now + FOLLOW, names | {seen.match.id for seen in shown})
-        self.states = {name: found for name, found in self.states.items() if name in self.reader.open or name in self.reader.ended}
+        viewed = {path for path, page in self.pages.items() if not page.is_idle(now)}
+        first = list(self.reader.open)[: live_pages.BOARDS] if FIRST in viewed else []
+        self.reader.advance(now + FOLLOW, {*first, *(match[1] for match in map(MATCH.fullmatch, viewed) if match)})
+        self.states = {name: state for name, state in self.states.items() if name in self.reader.open or name in self.reader.ended}
 
     def state(self, match: Match, version: int, states: Callable[[], list], notes: list[str]) -> "Markup":
         """Returns the last state of a match. It is drawn again only if its version has changed."""
@@ -279,9 +278,9 @@ class LiveSite:
             self.states[match.id] = version, live_pages.state_html(states(), self.plan.roles(match.game), self.site.named(match.game), notes)
         return self.states[match.id][1]
 
-    def state_of(self, seen: Seen) -> "Markup":
-        board = seen.board
-        return self.state(seen.match, board.version, lambda: board.position.states, [board.trouble] if board.trouble else [])
+    def state_of(self, live_match: LiveMatch) -> "Markup":
+        board = live_match.board
+        return self.state(live_match.match, board.version, lambda: board.position.states, [board.trouble] if board.trouble else [])
 
     # ---- pages
 
@@ -291,101 +290,101 @@ class LiveSite:
 
     def stamp(self, path: str) -> tuple | None:
         """Returns the data that a page is made from, or None if there is no such page. If the data is the same, the page is the same."""
-        own = self.own_stamp(path)
-        return None if own is None else (*own, self.shown_trouble())
-
-    def own_stamp(self, path: str) -> tuple | None:
-        """Returns the data that only this page is made from."""
         if path == live_api.FEED:
-            return self.reader.version, self.reader.results_version, self.tables_version
-        if path == FIRST:
-            return self.reader.version, self.tables_version
-        if found := self.made.get(path[1:]):
-            return tuple(found.results), found.words
-        match = MATCH.fullmatch(path)
-        return self.match_stamp(match[1]) if match else None
+            own = self.reader.version, self.reader.results_version, self.tables_version
+        elif path == FIRST:
+            own = self.reader.version, self.tables_version
+        elif made := self.made.get(path[1:]):
+            own = tuple(made.results), made.words
+        else:
+            match = MATCH.fullmatch(path)
+            own = match and self.match_stamp(match[1])
+        return own and (*own, self.shown_trouble())
 
     def match_stamp(self, name: str) -> tuple | None:
         if name not in self.reader.known or name in self.reader.results:
             return None
-        seen = self.reader.open.get(name)
-        return (seen.version,) if seen else ("waits", self.reader.faults.get(name), self.reader.given_up.get(name))
+        live_match = self.reader.open.get(name)
+        return (live_match.version,) if live_match else ("waits", self.reader.faults.get(name), self.reader.given_up.get(name))
 
     def make(self, path: str) -> tuple[str, PageParts | live_api.Keys]:
         """Returns the title and the parts of a page that exists, or the data of the event stream."""
         if path == live_api.FEED:
             return "", live_api.snapshot(self.reader, self.tables_version)
-        found = self.made.get(path[1:])
-        parts = self.match_parts(MATCH.fullmatch(path)[1]) if found is None else found.parts()
+        if made := self.made.get(path[1:]):
+            title, parts = made.title, made.parts()
+        else:
+            title = MATCH.fullmatch(path)[1]
+            parts = self.match_parts(title)
         if path == FIRST:
             head, bracket, rounds, standings, *rest = parts
             now, boards, opened, given_up, *more = live_pages.live_parts(self.reader, self.board_items())
             parts = [head, now, boards, bracket, rounds, standings, opened, given_up, *rest, *more]
-        title = MATCH.fullmatch(path)[1] if found is None else found.title
         return titled(self.plan, title), [live_pages.live_part("trouble", text=self.shown_trouble()), *parts]
 
     def match_parts(self, name: str) -> PageParts:
         """Returns the page of a match that is not over."""
-        match, seen = self.reader.known[name], self.reader.open.get(name)
+        match, live_match = self.reader.known[name], self.reader.open.get(name)
         roles = self.plan.roles(match.game)
         head = live_pages.match_head(match, self.plan.competition, roles)
-        if not seen:
-            why = self.reader.faults.get(match.id, ""), self.reader.given_up.get(match.id, "")
-            return live_pages.waiting_match_parts(*why, head)
-        return live_pages.open_match_parts(seen, self.state_of(seen), head, roles)
+        if not live_match:
+            return live_pages.waiting_match_parts(self.reader.faults.get(name, ""), self.reader.given_up.get(name, ""), head)
+        return live_pages.open_match_parts(live_match, self.state_of(live_match), head, roles)
 
     def board_items(self) -> list[tuple[str, str]]:
         """Returns the boards of the first page, in the schedule's order."""
-        shown = [seen for seen in self.reader.open_matches()[: live_pages.BOARDS] if seen.stage != "asking"]
-        found = {seen.match.id: live_pages.board_item(seen, self.state_of(seen), self.plan.roles(seen.match.game)) for seen in shown}
+        items = {}
+        for name, live_match in itertools.islice(self.reader.open.items(), live_pages.BOARDS):
+            if live_match.stage != "asking":
+                items[name] = live_pages.board_item(live_match, self.state_of(live_match), self.plan.roles(live_match.match.game))
         for name, (_, states) in sorted(self.reader.ended.items(), key=lambda ended: ended[1][0])[-live_pages.BOARDS_OVER :]:
             if result := self.reader.results.get(name):
                 state = self.state(result.match, -1, lambda: states, [])
-                found[name] = live_pages.last_board_item(result, state, self.plan.roles(result.match.game))
-        return [found[name] for name in sorted(found, key=self.reader.place.__getitem__)]
+                items[name] = live_pages.last_board_item(result, state, self.plan.roles(result.match.game))
+        return [items[name] for name in self.reader.known if name in items]
 
-    def renew(self, path: str, found: OpenPage) -> None:
+    def renew(self, path: str, page: OpenPage) -> None:
         """Makes a page again if its data has changed, and keeps the changes."""
         stamp = self.stamp(path)
-        if stamp == found.stamp or found.is_final:
+        if stamp == page.stamp or page.is_final:
             return
-        found.stamp = stamp
+        page.stamp = stamp
         if stamp is None:
             # The match is over, so it has another page now.
-            found.is_final = True
+            page.is_final = True
             return
-        found.title, parts = self.make(path)
-        changed = live_api.news(self.reader, found.parts, parts) if path == live_api.FEED else changes(found.parts, parts)
-        found.parts = parts
+        page.title, parts = self.make(path)
+        changed = live_api.news(self.reader, page.parts, parts) if path == live_api.FEED else changes(page.parts, parts)
+        page.parts = parts
         if changed:
             version = next(self.versions)
-            events = [*found.events[1 - MOST_EVENTS :], (version, event_text(version, {**changed, "now": self.delay.now()}))]
+            events = [*page.events[1 - MOST_EVENTS :], (version, event_text(version, {**changed, "now": self.delay.now()}))]
             # The one before the last change has the version that viewers have.
             while len(events) > 2 and sum(len(text) for _, text in events) > BYTES_OF_EVENTS:
                 del events[0]
-            found.events = tuple(events)
+            page.events = tuple(events)
 
     def opened(self, path: str) -> OpenPage | None:
         """Returns a page as it is now, or None if there is no such page, or if its match is over."""
-        found = self.pages.get(path)
-        if found:
-            self.renew(path, found)
-        if not found or found.is_final:
+        page = self.pages.get(path)
+        if page:
+            self.renew(path, page)
+        if not page or page.is_final:
             stamp = self.stamp(path)
             if stamp is None or not self.made:
                 return None
-            found = self.pages[path] = OpenPage(*self.make(path), stamp, ((next(self.versions), b""),))
-        found.touched = time.monotonic()
+            page = self.pages[path] = OpenPage(*self.make(path), stamp, ((next(self.versions), b""),))
+        page.touched = time.monotonic()
         self.pages.move_to_end(path)
-        return found
+        return page
 
     def page(self, path: str) -> bytes | Work | None:
         """Returns the page at a path, or a function that makes it, or None."""
-        if found := self.opened(path):
+        if opened := self.opened(path):
             # The page gets the changes after this version.
-            events = f"{'../' * (path.count('/') - 1)}events{path}?after={found.version}"
+            events = f"{'../' * (path.count('/') - 1)}events{path}?after={opened.version}"
             live = {"now": self.delay.now(), "events": events, "reload": RELOAD}
-            return page("parts", title=found.title, script="live.js", live=live, parts=found.parts)
+            return page("parts", title=opened.title, script="live.js", live=live, parts=opened.parts)
         match = OVER.fullmatch(path)
         result = self.reader.results.get(match[1]) if match else None
         return result and functools.partial(self.page_of_match, self.site, path, result, int(match[2] or 0))
@@ -400,22 +399,23 @@ class LiveSite:
         """Returns the data for other programs at a path, or a function that makes it, or None."""
         if path == live_api.METRICS:
             return live_api.metrics(self.reader, self.tables[0]) if self.tables else None
-        found = live_api.API.fullmatch(path)
-        if not found:
+        asked = live_api.API.fullmatch(path)
+        if not asked:
             return None
-        if found[1]:
-            return self.site.kept_data(path, self.tables_version, lambda: json_text(self.plan, self.tables).encode("ascii")) if self.tables else None
-        if match := self.reader.known.get(found[3]):
-            if (stamp := self.match_stamp(match.id)) is not None:
-                return self.site.kept_data(path, stamp, lambda: live_api.json_bytes(live_api.own_keys(self.reader, match)))
+        is_table, page, name = asked.groups()
+        if is_table:
+            return self.site.kept.get(path, self.tables_version, lambda: json_text(self.plan, self.tables).encode("ascii")) if self.tables else None
+        if match := self.reader.known.get(name):
+            if (stamp := self.match_stamp(name)) is not None:
+                return self.site.kept.get(path, stamp, lambda: live_api.json_bytes(live_api.own_keys(self.reader, match)))
             keys, reader = live_api.own_keys(self.reader, match), self.reader
             return functools.partial(self.site.data_of_match, path, match, lambda: live_api.json_bytes(keys | live_api.record_keys(reader, match)))
-        said = None if found[3] else live_api.list_keys(self.reader, int(found[2] or 1))
-        return said and live_api.json_bytes({**said, "now": self.delay.now(), "trouble": self.shown_trouble()})
+        keys = None if name else live_api.list_keys(self.reader, int(page or 1))
+        return keys and live_api.json_bytes({**keys, "now": self.delay.now(), "trouble": self.shown_trouble()})
 
     def drop_idle_pages(self) -> None:
         now = time.monotonic()
-        idle = [path for path, found in self.pages.items() if not found.viewers and now - found.touched > IDLE]
-        rest = [path for path, found in self.pages.items() if not found.viewers and path not in idle]
+        idle = [path for path, page in self.pages.items() if page.is_idle(now)]
+        rest = [path for path, page in self.pages.items() if not page.viewers and path not in idle]
         for path in [*idle, *rest[: max(0, len(self.pages) - len(idle) - MOST_PAGES)]]:
             del self.pages[path]

@@ -53,9 +53,10 @@ def part(macro: str, /, has_content: object = True, **values: object) -> Part:
     return Part(macro, html_of("competition", macro, **values) if has_content else "")
 
 
-def list_part(name: str, title: str, intro: str, rows: list[tuple["Match", str]], more: int, where: str = "") -> Part:
-    """Returns a list of matches without a result, each with a remark, and how many more there are."""
-    return Part(name, html_of("competition", "match_list", title=title, intro=intro, rows=rows, more=more, where=where) if rows else "")
+def list_part(name: str, title: str, intro: str, rows: list[tuple["Match", str]], most: int, where: str = "") -> Part:
+    """Returns a list of matches without a result, each with a remark. It has at most this many rows, and says how many more there are."""
+    texts = {"title": title, "intro": intro, "rows": rows[:most], "more": len(rows[most:]), "where": where}
+    return Part(name, html_of("competition", "match_list", **texts) if rows else "")
 
 
 def rows_part(name: str, title: str, heads: list[str], rows: list[Item], nothing: str, control: str = "") -> Items:

@@ -215,8 +215,7 @@ class Site:
     def gaps(self, results: list[Result]) -> Part:
         """Returns the list of the matches without a record."""
         missing = [(match, "") for match in without_record(self.plan, results)] if self.shows_gaps else []
-        rest = len(missing[MOST_LISTED:]), ", listed in GAPS.tsv"
-        return list_part("gaps", "Matches without a record", "They do not count.", missing[:MOST_LISTED], *rest)
+        return list_part("gaps", "Matches without a record", "They do not count.", missing, MOST_LISTED, ", listed in GAPS.tsv")
 
     def span(self, results: list[Result]) -> tuple[str, str]:
         """Returns when the first match began and the last one ended. The texts are empty if no log has the times."""

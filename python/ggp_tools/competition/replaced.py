@@ -4,6 +4,7 @@ from collections.abc import Iterable, Mapping, Sequence
 from dataclasses import dataclass
 
 from ggp_tools.competition.schedule import Match
+from ggp_tools.match_log import SHORTAGE
 
 Texts = Sequence[str]
 # At most this many replaced moves are listed, and at most this many of one match.
@@ -12,7 +13,8 @@ MOST_REPLACED, MOST_OF_MATCH = 20, 3
 
 @dataclass(frozen=True)
 class Replaced:
-    """A replaced move: the error, the move that was played instead, and the time of the last answer of its turn."""
+    """A replaced move: the error, the move that was played instead, the time of the last answer of its turn, and how many moves of its match were
+    replaced before."""
 
     match: Match
     player: str
@@ -20,18 +22,20 @@ class Replaced:
     error: str
     move: str
     moment: float
+    before: int
 
 
-def newest(found: Iterable[Replaced]) -> list[Replaced]:
+def newest(moves: Iterable[Replaced]) -> list[Replaced]:
     """Returns the latest replaced moves, the newest last."""
-    return sorted(found, key=lambda move: (move.moment, move.turn))[-MOST_REPLACED:]
+    return sorted(moves, key=lambda move: (move.moment, move.turn))[-MOST_REPLACED:]
 
 
 def replaced_moves(match: Match, turns: Iterable[tuple[Texts, Texts]], moments: Mapping[int, float], otherwise: float) -> list[Replaced]:
-    """Returns all replaced moves of a match, from the moves and the errors of its turns. `otherwise` is the time of a turn whose time is unknown."""
-    return [
-        Replaced(match, match.players[role], turn, error, moves[role], moments.get(turn, otherwise))
-        for turn, (moves, errors) in enumerate(turns, 1)
-        for role, error in enumerate(errors)
-        if error
-    ]
+    """Returns the last replaced moves of a match, from the moves and the errors of its turns. A move that was replaced because the referee lacked a
+    resource does not count. `otherwise` is the time of a turn whose time is unknown."""
+    replaced: list[Replaced] = []
+    for turn, (moves, errors) in enumerate(turns, 1):
+        for role, error in enumerate(errors):
+            if error and error != SHORTAGE:
+                replaced.append(Replaced(match, match.players[role], turn, error, moves[role], moments.get(turn, otherwise), len(replaced)))
+    return replaced[-MOST_OF_MATCH:]

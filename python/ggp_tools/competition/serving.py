@@ -68,7 +68,7 @@ def run_serve(asked: argparse.Namespace, referee: Referee) -> int:
         raise Refused(f"--connections {asked.connections} needs {asked.connections + OTHER_FILES} open files, and the system allows {most} (ulimit -n)")
     stamp = plan_stamp(Folder(asked.folder))
     site = LiveSite(read_plan(asked.folder, referee), referee, lambda: read_plan(asked.folder, referee), stamp, asked.delay)
-    site.look()
+    site.update()
     asyncio.run(serve(site, asked))
     return 0
 

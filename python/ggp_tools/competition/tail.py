@@ -2,7 +2,7 @@
 
 import os
 from collections.abc import Callable
-from typing import BinaryIO, Generic, TypeVar
+from typing import BinaryIO, Generic, NamedTuple, TypeVar
 
 from ggp_tools.competition.files import opened_file
 from ggp_tools.match_log import whole_lines
@@ -14,6 +14,20 @@ HEAD = 256
 T = TypeVar("T")
 
 
+class Extent(NamedTuple):
+    """The size of a growing file. With a delay, also the number and the first bytes of the file, because another file may replace it."""
+
+    size: int
+    number: int = 0
+    head: bytes = b""
+
+
+def extent_of(file: BinaryIO) -> Extent:
+    """Returns the size, the number and the first bytes of a file that has just been opened."""
+    status = os.fstat(file.fileno())
+    return Extent(status.st_size, status.st_ino, file.read(HEAD))
+
+
 class Tail(Generic[T]):
     """The parsed lines of a growing file. Each read continues where the last one ended, or at the beginning if the file was replaced or cut. Once the
     file is gone, a later file, which has the same lines, is read instead."""
@@ -21,48 +35,37 @@ class Tail(Generic[T]):
     def __init__(self, path: str, parse: Callable[[bytes], T | None], later: str = "") -> None:
         self.path, self.parse, self.later = path, parse, later
         self.place, self.number, self.head = 0, None, b""
-        # Whether some lines up to the requested size are still unread.
+        # Whether some lines of the extent are still unread.
         self.is_behind = False
 
-    def added(self, until: int, number: int = 0, head: bytes = b"") -> tuple[list[T], bool]:
-        """Returns the new lines up to a size of the file, and whether it is a different file than before. There are no lines if the file can't be
-        read, or does not have this number and these first bytes."""
+    def added(self, extent: Extent) -> tuple[list[T], bool]:
+        """Returns the new lines of this extent of the file, and whether it is a different file than before. There are no lines if the file can't be
+        read, or does not have the number and the first bytes of the extent."""
         if self.later and not os.path.exists(self.path):
             self.path, self.later, self.number = self.later, "", None
         try:
             with opened_file(self.path) as file:
-                if not self.is_expected(file, number, head):
+                size, number, head = extent_of(file)
+                # The later file has another number.
+                if self.later and extent.number not in (0, number) or not head.startswith(extent.head):
                     self.is_behind = True
                     return [], False
-                is_other = self.begin(file)
-                return self.read_on(file, until), is_other
+                is_other = self.number not in (None, number) or size < self.place or not head.startswith(self.head)
+                self.place, self.number, self.head = 0 if is_other else self.place, number, head
+                return self.read_on(file, extent.size), is_other
         except OSError:
-            self.is_behind = self.place < until
+            self.is_behind = self.place < extent.size
             return [], False
 
-    def is_expected(self, file: BinaryIO, number: int, head: bytes) -> bool:
-        """Returns whether a file has this number and these first bytes. A later file has another number."""
-        is_file = not number or not self.later or os.fstat(file.fileno()).st_ino == number
-        return is_file and os.pread(file.fileno(), HEAD, 0).startswith(head)
-
-    def begin(self, file: BinaryIO) -> bool:
-        """Returns whether a file is a different one than before. If so, it is read from its beginning."""
-        found, head = os.fstat(file.fileno()), file.read(HEAD)
-        is_other = self.number not in (None, found.st_ino) or found.st_size < self.place or not head.startswith(self.head)
-        if is_other:
-            self.place = 0
-        self.number, self.head = found.st_ino, head
-        return is_other
-
     def read_on(self, file: BinaryIO, until: int) -> list[T]:
-        found, begin, self.is_behind = [], file.seek(self.place), False
+        values, begin, self.is_behind = [], file.seek(self.place), False
         for line in whole_lines(file):
             if file.tell() > until:
                 break
             self.place = file.tell()
-            if (said := self.parse(line)) is not None:
-                found.append(said)
+            if (value := self.parse(line)) is not None:
+                values.append(value)
             if self.place - begin >= MOST_READ:
                 self.is_behind = True
                 break
-        return found
+        return values
