@@ -171,7 +171,7 @@ class Files(InCache):
         knowledge = Known(self.folder)
         results, _, _ = check_records(self.plan, self.referee, knowledge)
         made = []
-        with mock.patch.object(pages, "match_page", lambda *work: made.append(work) or b"made %d" % len(work[1])):
+        with mock.patch.object(pages, "match_page", lambda *work: made.append(work) or b"made %d" % len(work[0])):
             Pages(self.plan, known=knowledge).write(in_order(self.plan, results))
         knowledge.write()
         return len(made)

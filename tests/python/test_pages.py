@@ -224,8 +224,8 @@ class PagesOfMany(unittest.TestCase):
         site.add(self.results[0])
         for size, explains in ((1 << 20, True), ((1 << 20) + 1, False)):
             self.plan.rules["one"] = replace(self.plan.rules["one"], text=b"(legal <i> (mark 1 1))".ljust(size, b";"))
-            _, _, rules, _, named, _ = site.match_work(self.results[0], b"")
-            self.assertEqual((bool(rules), named.moves), (explains, ["(mark 1 1)"] * explains))
+            game, _, frame = site.match_work(self.results[0])
+            self.assertEqual((bool(game), frame.named.moves), (explains, ["(mark 1 1)"] * explains))
 
     def test_the_last_errors_of_a_match_stand_on_the_page_of_a_player(self):
         match = self.plan.matches[0]

@@ -44,7 +44,7 @@ def values_of_macro(text: str) -> dict[str, dict[str, object]]:
     """Returns the arguments of the macros that need special arguments."""
     match, error = values_of(text)["match"], Value(match=values_of(text)["match"], player=text, turn=1, move=text)
     row = {"left": 1, "y": 1, "player": text, "low": 1, "high": 2, "x": 1, "rating": 1, "half": 1}
-    errors = {"match": text, "turn": text, "reason": text, "error": text, "texts": (text, text, text)}
+    answer = Value(turn=text, error=text, message=text, answer=text, move=text)
     return {
         "competition.standings": {"rows": [(text, ["1", text, text])], "up": "../"},
         "competition.crosstable": {"rows": [["1", text, text]]},
@@ -53,7 +53,7 @@ def values_of_macro(text: str) -> dict[str, dict[str, object]]:
         "competition.rounds": {"rows": [(1, (text, text), [text]), (1, (text, ""), [text])], "count": 5},
         "competition.rules": {"text": text.encode("utf-8", "replace")},
         "competition.seats": {"rows": [(text, text, [text])]},
-        "competition.errors": {"rows": [errors], "count": 5},
+        "competition.errors": {"rows": [(text, answer, text)], "count": 5},
         "live.replaced": {"rows": [(error, 1, text, text)]},
         "competition.match_list": {"rows": [(match, text)]},
         "live.answers": {"rows": [(text, text, text, 1)]},

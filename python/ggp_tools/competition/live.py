@@ -208,7 +208,6 @@ class LiveMatch:
                 self.take(message)
 
     def take(self, message: Message) -> None:
-        """Keeps the answer to a message."""
         if message.kind in ENDS:
             self.ends[message.role] = message
             if self.is_over():
@@ -282,7 +281,6 @@ def extent_at(path: pathlib.Path, is_delayed: bool) -> Extent:
 
 
 def identity_of(path: pathlib.Path) -> Identity:
-    """Returns the number, size and time of a file."""
     try:
         status = os.stat(path)
     except OSError:
@@ -421,7 +419,6 @@ class Reader:
         return gone
 
     def begun(self, match: Match) -> LiveMatch:
-        """Begins to follow a match."""
         folder = self.plan.folder
         self.faults.pop(match.id, None)
         board = LiveBoard(match, self.plan.competition.strikes, folder.rules_of(match.game))
@@ -485,7 +482,6 @@ class Reader:
         self.show_news()
 
     def troubles_of_matches(self) -> list[str]:
-        """Returns the faults of these pages with open matches."""
         return [f"{name}: {live_match.trouble}" for name, live_match in self.open.items() if live_match.trouble]
 
     def list_records(self) -> None:

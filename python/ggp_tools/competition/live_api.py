@@ -97,7 +97,6 @@ def news(reader: Reader, old: Keys, new: Keys) -> Keys | None:
 
 
 def metrics(reader: Reader, table: Table) -> bytes:
-    """Returns the numbers of a competition."""
     lost = sum(name not in reader.results and name not in reader.open for name in reader.given_up.keys() | reader.faults.keys())
     counts = {"open": len(reader.open), "over": len(reader.results), "given up": lost}
     counts["waiting"] = len(reader.known) - sum(counts.values())

@@ -36,7 +36,6 @@ class Turn:
 
 
 def last_states(states: list[list[str]]) -> list[list[str]]:
-    """Returns the first state and the last ones."""
     return [*states[:1], *states[1:][-MOST_STATES:]]
 
 
@@ -93,7 +92,6 @@ class LiveBoard:
         self.version += 1
 
     def take(self, message: Message) -> None:
-        """Takes the answer to a START or a PLAY."""
         self.answers.setdefault(message.turn(), {})[message.role] = message
 
     def is_finished(self, at: int) -> bool:

@@ -65,7 +65,6 @@ def status_of(live_match: LiveMatch, roles: tuple[str, ...]) -> Status:
 
 
 def open_row(live_match: LiveMatch, roles: tuple[str, ...]) -> Item:
-    """Returns the row of an open match."""
     match = live_match.match
     missed = [(match.players[role], count) for role, count in sorted(live_match.missed.items())]
     turn = live_match.turn() if live_match.stage == "playing" else ""
@@ -153,7 +152,6 @@ def answers_part(live_match: LiveMatch) -> Part:
 
 
 def open_match_parts(live_match: LiveMatch, state: "Markup", head: Part, roles: tuple[str, ...]) -> PageParts:
-    """Returns the page of a match that is open."""
     board = live_match.board
     turns, mover = [turn_row(turn) for turn in reversed(board.turns())], board.position.mover()
     return [

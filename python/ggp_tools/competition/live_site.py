@@ -14,7 +14,6 @@ from collections.abc import Callable, Iterator
 from dataclasses import dataclass, replace
 from operator import itemgetter
 
-from ggp_tools.answers import game_of
 from ggp_tools.competition import live, live_api, live_pages
 from ggp_tools.competition.files import Folder, Refused
 from ggp_tools.competition.live import Delay, LiveMatch, Reader, for_visitors, identity_of
@@ -25,7 +24,7 @@ from ggp_tools.competition.results import Result
 from ggp_tools.competition.schedule import Match
 from ggp_tools.competition.table import Table, tables_of
 from ggp_tools.competition.table_text import in_order, json_text
-from ggp_tools.records.show import Frame, NoRecord, page_of, parts_of, read_record
+from ggp_tools.records.show import NoRecord, page_of, parts_of, read_record
 from ggp_tools.referee import NoReferee, Referee, Unchecked
 from ggp_tools.templating import page
 
@@ -138,8 +137,8 @@ class SiteOfShown(Site):
         record, _ = self.records.get(match.id, self.reader.identities.get(match.id), lambda: self.read_record(match))
         if number > len(parts_of(record["states"])):
             raise NoRecord("its page has no such part")
-        head, _, rules, answers, named, winner = self.match_work(result, b"")
-        return page_of(record, (lambda: game_of(rules)) if rules else None, answers, Frame(head, named, winner, number - 1))
+        game, answers, frame = self.match_work(result)
+        return page_of(record, game, answers, replace(frame, part=number - 1))
 
     def read_record(self, match: Match) -> tuple[dict, int]:
         data = self.plan.read_record(match)
@@ -174,7 +173,6 @@ class LiveSite:
         self.begin(shown)
 
     def begin(self, plan: Plan) -> None:
-        """Begins with a plan."""
         self.plan, self.trouble, self.fault = plan, "", ""
         self.reader = Reader(plan, self.referee, self.delay)
         self.site = SiteOfShown(plan, self.reader)
@@ -285,7 +283,6 @@ class LiveSite:
     # ---- pages
 
     def shown_trouble(self) -> str:
-        """Returns why the pages may be out of date."""
         return self.trouble or self.fault or self.reader.trouble()
 
     def stamp(self, path: str) -> tuple | None:
@@ -323,7 +320,6 @@ class LiveSite:
         return titled(self.plan, title), [live_pages.live_part("trouble", text=self.shown_trouble()), *parts]
 
     def match_parts(self, name: str) -> PageParts:
-        """Returns the page of a match that is not over."""
         match, live_match = self.reader.known[name], self.reader.open.get(name)
         roles = self.plan.roles(match.game)
         head = live_pages.match_head(match, self.plan.competition, roles)

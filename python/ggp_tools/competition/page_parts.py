@@ -73,38 +73,34 @@ def frame(parts: PageParts) -> list[tuple]:
     return [(part.name,) if isinstance(part, Part) else (part.name, part.opening, part.closing) for part in parts]
 
 
-def item_changes(old: Items, new: Items) -> tuple[list, list, list]:
+def item_changes(old: Items, new: Items) -> dict[str, list]:
     """Returns the names of dropped items, the replaced items with their HTML, and the added ones, the last one first. An added item has its part, the
     item before which it is inserted, and its HTML. An item that moves is dropped and added."""
     before, after = dict(old.items), dict(new.items)
     kept = [name for name, _ in old.items if name in after]
     if kept != [name for name, _ in new.items if name in before]:
         kept = []
-    stays = set(kept)
-    dropped = [name for name, _ in old.items if name not in stays]
-    replaced = [[name, after[name]] for name in kept if after[name] != before[name]]
-    added, following = [], None
+    stays, added, following = set(kept), [], None
     for name, text in reversed(new.items):
         if name not in stays:
             added.append([new.name, following, text])
         following = name
-    return dropped, replaced, added
+    dropped = [name for name, _ in old.items if name not in stays]
+    return {"drop": dropped, "set": [[name, after[name]] for name in kept if after[name] != before[name]], "add": added}
 
 
 def changes(old: PageParts, new: PageParts) -> dict | None:
     """Returns the changes of a page, or None if there are none. If more than parts and items have changed, the browser must load the page again."""
     if frame(old) != frame(new):
         return {"reload": True}
-    dropped, replaced, added = [], [], []
+    changed = {"drop": [], "set": [], "add": []}
     for before, after in zip(old, new):
         if isinstance(before, Items):
-            of_part = item_changes(before, after)
-            dropped += of_part[0]
-            replaced += of_part[1]
-            added += of_part[2]
+            for kind, values in item_changes(before, after).items():
+                changed[kind] += values
         elif before.text != after.text:
-            replaced.append([after.name, after.html()])
-    return {"drop": dropped, "set": replaced, "add": added} if dropped or replaced or added else None
+            changed["set"].append([after.name, after.html()])
+    return changed if any(changed.values()) else None
 
 
 def event_text(version: int, changes: dict) -> bytes:

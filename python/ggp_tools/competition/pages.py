@@ -7,7 +7,8 @@ import heapq
 import io
 import time
 import typing
-from collections.abc import Callable, Iterable
+from collections import defaultdict
+from collections.abc import Callable
 from dataclasses import dataclass, replace
 
 from ggp_tools.answers import MOST_RULES, game_of
@@ -16,7 +17,7 @@ from ggp_tools.competition.files import UNFINISHED, drop_unfinished, write_whole
 from ggp_tools.competition.known import Known, sum_of_parts, sum_or_none
 from ggp_tools.competition.page_parts import Item, Items, PageParts, Part, html_of, list_part, part, rows_part
 from ggp_tools.competition.plan import Plan
-from ggp_tools.competition.player_pages import Appearance, appearances_of, page_name, player_parts, standing_of, standing_texts
+from ggp_tools.competition.player_pages import Appearance, appearances_of, page_name, player_parts, standing_texts
 from ggp_tools.competition.plots import rating_plot
 from ggp_tools.competition.results import WON, Result, remarks, winner_words
 from ggp_tools.competition.round_pages import bracket_part, count_of_all, round_text, rounds_part, rounds_words
@@ -25,6 +26,7 @@ from ggp_tools.competition.side_by_side import made_side_by_side
 from ggp_tools.competition.table import Table, loaded_ratings, tables_of
 from ggp_tools.competition.table_text import crosstable_rows, forfeit_rule, method_of, notes, standings_rows, without_record
 from ggp_tools.descriptions.loading import Rules, sum_of
+from ggp_tools.holding.game import Game
 from ggp_tools.match_log import Event, last_run
 from ggp_tools.records.match_logs import logged
 from ggp_tools.records.show import Frame, Named, named_in, page_of, read_record
@@ -119,9 +121,9 @@ def rules_part(rules: Rules) -> Part:
     return part("rules", text=rules.text, sum=sum_of(rules.text), player_text=player_text, player_sum=player_sum)
 
 
-def match_page(head: "Markup", data: bytes, rules: bytes, answers: dict[tuple[int, int], str], named: Named, winner: str) -> bytes:
-    """Returns the page of a match: that of `ggp-show-record` for its record, with a head. If there are rules, the page lists the legal moves."""
-    return page_of(read_record(data), (lambda: game_of(rules)) if rules else None, answers, Frame(head, named, winner))
+def match_page(data: bytes, game: Callable[[], Game] | None, answers: dict[tuple[int, int], str], frame: Frame) -> bytes:
+    """Returns the page of a match: that of `ggp-show-record` for its record, with a head."""
+    return page_of(read_record(data), game, answers, frame)
 
 
 @dataclass(frozen=True)
@@ -189,11 +191,12 @@ class Site:
         errors = [(appearance.role, error) for appearance in self.ended[result.match.id].appearances for error in appearance.errors]
         return {(role, error.turn - 1): error.answer for role, error in errors if error.error == "IL ?" and error.message}
 
-    def match_work(self, result: Result, data: bytes) -> tuple["Markup", bytes, bytes, dict[tuple[int, int], str], Named, str]:
-        """Returns the arguments of `match_page`. They include the rules if these explain an illegal move and are not too long."""
-        rules = self.plan.rules[result.match.game].text if any(errors["IL"] for errors in result.errors) else b""
-        more = self.answers(result), self.named(result.match.game), winner_words(result)
-        return self.match_head(result), data, rules if len(rules) <= MOST_RULES else b"", *more
+    def match_work(self, result: Result) -> tuple[Callable[[], Game] | None, dict[tuple[int, int], str], Frame]:
+        """Returns the arguments of `match_page` after the record. They include the game, whose legal moves the page lists, if a move was illegal and
+        the rules are not too long."""
+        rules = self.plan.rules[result.match.game].text
+        game = functools.partial(game_of, rules) if any(errors["IL"] for errors in result.errors) and len(rules) <= MOST_RULES else None
+        return game, self.answers(result), Frame(self.match_head(result), self.named(result.match.game), winner_words(result))
 
     def key_of_page(self, result: Result, data: bytes) -> str:
         """Returns a checksum of everything from which the page of a match follows."""
@@ -243,27 +246,16 @@ class Site:
         return [head, part("pages", spans, spans=spans, own=name), matches_part([self.ended[result.match.id].above for result in pages[name]])]
 
     def game_parts(self, table: Table, results: list[Result]) -> PageParts:
-        """Returns the page of a game, from its table and its results."""
         rules = self.plan.rules[table.game]
         head = part("game", name=self.plan.competition.name, title=table.game, roles=rules.roles, clocks=self.games[table.game])
         return [head, *standings(table, "../"), *self.own_matches(results), rules_part(rules)]
 
     def player_parts(self, player: str, standing: str, results: list[Result]) -> PageParts:
-        """Returns the page of a player, from its results."""
         ended = [self.ended[result.match.id] for result in results]
         own = [appearance for match in ended for appearance in match.appearances if match.result.match.players[appearance.role] == player]
         cut = [match.result.match.id for match in ended if match.is_cut]
         parts = player_parts(self.plan.competition.name, player, standing, own)
         return [*parts, part("cut", cut, ids=cut, words=LOG_WORDS), *self.own_matches(results)]
-
-
-def grouped(results: list[Result], names_of: Callable[[Match], Iterable[str]]) -> dict[str, list[Result]]:
-    """Groups results by the names that a function returns for their matches."""
-    by_name: dict[str, list[Result]] = {}
-    for result in results:
-        for name in names_of(result.match):
-            by_name.setdefault(name, []).append(result)
-    return by_name
 
 
 class PageOf(typing.NamedTuple):
@@ -277,8 +269,11 @@ class PageOf(typing.NamedTuple):
 
 def pages_of(site: Site, tables: list[Table], results: list[Result]) -> dict[str, PageOf]:
     """Returns all pages except those of matches, by name."""
-    texts, of_game = standing_texts(tables[0]), grouped(results, lambda match: [match.game])
-    of_player = grouped(results, lambda match: dict.fromkeys(match.players))
+    standings, of_game, of_player = standing_texts(tables[0]), defaultdict(list), defaultdict(list)
+    for result in results:
+        of_game[result.match.game].append(result)
+        for player in dict.fromkeys(result.match.players):
+            of_player[player].append(result)
     pages = {"index.html": PageOf("", results, "", functools.partial(site.first_parts, tables, results))}
     lists = pages_of_all(results)
     # Each list has links to the others, with the ids of their matches.
@@ -286,11 +281,11 @@ def pages_of(site: Site, tables: list[Table], results: list[Result]) -> dict[str
     for name, own in lists.items():
         pages[f"{name}.html"] = PageOf("all matches", own, ends, functools.partial(site.all_matches, results, name))
     for table in tables[1:]:
-        own, words = of_game.get(table.game, []), "rated" if any(line.rating for line in table.lines.values()) else ""
+        own, words = of_game[table.game], "rated" if any(line.rating for line in table.lines.values()) else ""
         pages[f"games/{table.game}.html"] = PageOf(table.game, own, words, functools.partial(site.game_parts, table, own))
     for name in (player.name for player in site.plan.competition.players):
-        own = of_player.get(name, [])
-        standing = standing_of(texts, name, bool(own))
+        own = of_player[name]
+        standing = standings.get(name) or f"It has played no match{' that counts' if own else ''}."
         pages[page_name(name)] = PageOf(name, own, standing, functools.partial(site.player_parts, name, standing, own))
     return pages
 
@@ -342,7 +337,7 @@ class Pages:
             data = self.site.add(result, self.known)
             key = self.site.key_of_page(result, data) if self.known else ""
             if not self.known or self.known.get("pages", key) != (sum_or_none(self.folder / name) or ""):
-                left.append((name, key, self.site.match_work(result, data)))
+                left.append((name, key, (data, *self.site.match_work(result))))
                 size += len(data)
             if size > TOGETHER:
                 self.make_matches(left)

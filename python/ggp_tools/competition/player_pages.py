@@ -10,6 +10,7 @@ from ggp_tools.competition.plots import BARS, bar_of, goals_plot, times_plot
 from ggp_tools.competition.results import Result, again_words
 from ggp_tools.competition.table import Table
 from ggp_tools.competition.table_text import rating_text
+from ggp_tools.kif import grouped
 from ggp_tools.match_log import PLAY, SHORTAGE, START, Event, Message, messages, shown
 from ggp_tools.printable import counted
 from ggp_tools.records.show import why_of
@@ -98,16 +99,9 @@ def standing_texts(table: Table) -> dict[str, str]:
     return texts
 
 
-def standing_of(texts: dict[str, str], player: str, has_played: bool) -> str:
-    """Returns the sentence about a player, even if it has played no match that counts."""
-    return texts.get(player) or f"It has played no match{' that counts' if has_played else ''}."
-
-
 def role_rows(appearances: list[Appearance]) -> Iterator[tuple[str, str, list[str]]]:
     """Yields each game and role of the player, with the goals and times in it."""
-    by_role: dict[tuple[str, int, str], list[Appearance]] = {}
-    for appearance in appearances:
-        by_role.setdefault((appearance.result.match.game, appearance.role, appearance.role_name), []).append(appearance)
+    by_role = grouped(appearances, lambda appearance: (appearance.result.match.game, appearance.role, appearance.role_name))
     for (game, role, name), own in sorted(by_role.items()):
         goals = [goal for appearance in own if (goal := appearance.goal()) is not None]
         mean = f"{sum(goals) / len(goals):.2f}" if goals else "none"
@@ -130,18 +124,9 @@ def reason_of(error: str) -> str:
 
 def errors_part(appearances: list[Appearance]) -> Part:
     """Returns the newest errors, each with the message that caused it."""
-    newest = ((appearance, error) for appearance in reversed(appearances) for error in reversed(appearance.errors))
-    rows = [
-        {
-            "match": appearance.result.match.id,
-            "turn": error.turn,
-            "reason": reason_of(error.error),
-            "error": error.error.partition(" ")[0],
-            "texts": (error.message, error.answer, error.move),
-        }
-        for appearance, error in itertools.islice(newest, MOST_ERRORS)
-    ]
-    return part("errors", said=LAST_ERRORS, rows=rows, count=sum(appearance.result.replaced(appearance.role) for appearance in appearances))
+    newest = ((appearance.result.match.id, error) for appearance in reversed(appearances) for error in reversed(appearance.errors))
+    rows = [(match, error, reason_of(error.error)) for match, error in itertools.islice(newest, MOST_ERRORS)]
+    return part("errors", intro=LAST_ERRORS, rows=rows, count=sum(appearance.result.replaced(appearance.role) for appearance in appearances))
 
 
 def player_parts(competition: str, player: str, standing: str, appearances: list[Appearance]) -> PageParts:
