@@ -120,6 +120,8 @@ class InBrowser(unittest.TestCase):
         self.sender = "192.0.2.9"
         page = self.begin("xplayer", RULES)
         asked = self.ask("(PLAY M NIL)")
+        # A board that appears between the search for the button and the click would move the button.
+        page.until("document.querySelectorAll('.board button.can').length === 9")
         self.leave(page, "Referee: 192.0.2.9 (leave this match)")
         self.assertIsNone(self.answered(asked))
         self.assertIn("You have left match M", page.text())
@@ -131,7 +133,7 @@ class InBrowser(unittest.TestCase):
         """Leaves the match, or the referee, by the button below the line that is shown."""
         page.until(f"document.getElementById('sender').textContent === '{shown}' && !document.getElementById('referee').hidden")
         page.click("document.getElementById('sender')")
-        self.assertIn("restart ggp-human with --referee ADDRESS", page.text())
+        page.until("document.body.innerText.includes('restart ggp-human with --referee ADDRESS')")
         self.assertEqual(page.unreadable(), [])
         page.click("document.getElementById('leave')")
         page.until("document.getElementById('referee').hidden")

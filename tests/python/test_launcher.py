@@ -144,7 +144,11 @@ class Launched(InFolder):
         self.assertEqual(list((self.folder / "open").iterdir()), [])
 
     def test_a_job_that_is_lost_with_its_node_is_begun_again(self):
-        lost = '[ -e $folder/lost ] && exec "$@"; touch $folder/lost; "$@" <&0 & job=$!; read line < $folder/cut; kill -9 $job; echo "srun: error: Node failure" >&2'
+        # What the shell itself prints about the killed job goes to a file.
+        lost = (
+            '[ -e $folder/lost ] && exec "$@"; touch $folder/lost; "$@" <&0 & job=$!; read line < $folder/cut;'
+            ' { kill -9 $job; wait $job; } 2> $folder/killed; echo "srun: error: Node failure" >&2'
+        )
         self.planned(lost, kind="slow")
         os.mkfifo(self.folder / "cut")
         for player in self.players:
