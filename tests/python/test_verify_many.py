@@ -190,6 +190,36 @@ class All(WithProgram):
         counts = list(map(int, (self.folder / "counts").read_text().split()))
         self.assertEqual((len(counts), max(counts) <= 2), (13, True))
 
+    def test_no_more_than_two_pieces_besides_those_of_the_processes_are_in_memory(self):
+        jobs, count, changed = 2, 40, threading.Condition()
+        read = written = most = 0
+
+        def counted(size):
+            nonlocal read, most
+            for _ in range(count):
+                with changed:
+                    read, most = read + 1, max(most, read + 1 - written)
+                    changed.notify_all()
+                yield b"ok\n"
+
+        def checked(words, piece):
+            # Each check waits until all that may be read ahead has been read.
+            with changed:
+                changed.wait_for(lambda: read == count or read - written >= jobs + 2)
+            return verify_many.Checked(b"lawful\n")
+
+        def write(stream, text):
+            nonlocal written
+            with changed:
+                written += 1
+                changed.notify_all()
+
+        with contextlib.ExitStack() as stack:
+            for name, other in (("pieces", counted), ("check", checked), ("write_whole", write)):
+                stack.enter_context(mock.patch.object(verify_many, name, other))
+            check_all(["program"], jobs, 1)
+        self.assertEqual((written, most), (count, jobs + 2))
+
 
 class Commands(WithProgram):
     def run_command(self, *words, text=b""):
