@@ -18,12 +18,13 @@ from ggp_tools.competition.competition_file import read_competition
 from ggp_tools.descriptions.loading import Rules
 from ggp_tools.competition.files import Folder
 from ggp_tools.competition.growth import History, grown
-from ggp_tools.competition.pages import Pages, Site, ended_match, seconds_between, spelt
+from ggp_tools.competition.pages import Pages, Site, ended_match, seconds_of, spelt
 from ggp_tools.competition.plan import Plan
-from ggp_tools.competition.results import result_of
+from ggp_tools.competition.results import Result, result_of
 from ggp_tools.competition.side_by_side import made_side_by_side
 from ggp_tools.competition.table import tables_of
-from ggp_tools.match_log import End, line_of
+from ggp_tools.match_log import End, Open, line_of
+from ggp_tools.records.match_logs import logged
 from ggp_tools.referee import Unchecked
 from html_pages import links_of, parsed, rows_of, text_of
 from live_support import BEGAN, ENDED, line, opened
@@ -62,9 +63,10 @@ def killed(_):
 
 
 class Seconds(unittest.TestCase):
-    def test_a_time_that_no_clock_shows_tells_nothing(self):
-        for end, words in (("2026-01-01T01:15:00.500Z", "4500.5"), ("2026-01-01T01:75:00.500Z", ""), (None, "")):
-            self.assertEqual(seconds_between({"begin": "2026-01-01T00:00:00.000Z", "end": end, "isSetBack": False}), words, end)
+    def test_how_long_a_match_took_follows_from_both_times(self):
+        began, ended = Open("m", 0), End("m", 4_500_500, "STOP")
+        for events, text in (([began, ended], "4500.5"), ([began], ""), ([Open("m", None), ended], "")):
+            self.assertEqual(seconds_of(logged(events)), text, events)
 
 
 class SideBySide(unittest.TestCase):
@@ -135,6 +137,11 @@ class PagesOfMany(unittest.TestCase):
             folder.log(match.id).write_text(log_of(match))
             self.results.append(result_of(record, match))
 
+    def written(self, results: list[Result]) -> Pages:
+        pages = Pages(self.plan)
+        pages.write(results)
+        return pages
+
     def page(self, pages: Pages, name: str) -> bs4.BeautifulSoup:
         return parsed((pages.folder / name).read_bytes())
 
@@ -143,8 +150,7 @@ class PagesOfMany(unittest.TestCase):
         return rows_of(self.page(pages, "index.html").find(id="matches"))[0]
 
     def test_each_link_leads_to_a_page(self):
-        pages = Pages(self.plan)
-        pages.write(self.results)
+        pages = self.written(self.results)
         files = [path for path in pages.folder.rglob("*") if path.is_file()]
         # Those of 300 matches, 25 players, one game, all matches, and the first one.
         self.assertEqual(len(files), 328)
@@ -165,8 +171,7 @@ class PagesOfMany(unittest.TestCase):
 
     def test_lists_of_many_matches_come_in_parts(self):
         with patch.object(pages_module, "MOST_LISTED", 120):
-            pages = Pages(self.plan)
-            pages.write(self.results)
+            pages = self.written(self.results)
             files = {file.name for file in pages.folder.iterdir() if file.is_file()}
             self.assertEqual(files, {"index.html", "matches.html", "matches-2.html", "matches-3.html"})
             lists = [self.page(pages, name) for name in ("matches.html", "matches-2.html", "matches-3.html")]
@@ -187,8 +192,7 @@ class PagesOfMany(unittest.TestCase):
     def test_what_a_log_says_is_text(self):
         for match in self.plan.matches:
             self.plan.folder.log(match.id).write_text(f"<plaintext>\n{log_of(match)}".replace('"ready"', '"<plaintext>"').replace(f"{ENDED}", '"<plaintext>"'))
-        pages = Pages(self.plan)
-        pages.write(self.results[:3])
+        pages = self.written(self.results[:3])
         for name in ("index.html", "games/one.html"):
             self.assertNotIn("plaintext", (pages.folder / name).read_text())
         self.assertEqual((spelt("<b>2026-01-02T03:04:05.678Z"), spelt(None)), ("<b>2026-01-02 03:04", ""))
@@ -198,8 +202,7 @@ class PagesOfMany(unittest.TestCase):
         # Events before the match began again on another host do not count.
         before, said = (line(match, 1, 2, f"(PLAY {match.id} NIL)", answer, ms) for answer, ms in (("lost", 9_000), ("<script>", 1_500)))
         self.plan.folder.log(match.id).write_text(before + log_of(match, said))
-        pages = Pages(self.plan)
-        pages.write(self.results[:1])
+        pages = self.written(self.results[:1])
         page = self.page(pages, f"players/player-{player}.html")
         self.assertIn("Place 1 of 2 in all games: 1 match, mean goal 50.00, 1 won, 0 drawn, 0 lost; 1 of 1 moves replaced", text_of(page))
         self.assertEqual(rows_of(page.find(id="seats"))[1:], [["one", "b", "1", "50.00", "1 of 1", "", "1,500 ms"]])
@@ -214,8 +217,7 @@ class PagesOfMany(unittest.TestCase):
         self.plan.folder.record(match.id).write_text(json.dumps(record))
         said = [line(match, 0, number, f"(PLAY {match.id} NIL)", answer) for number, answer in ((2, "(noop"), (3, "a b"))]
         self.plan.folder.log(match.id).write_text(log_of(match, *said))
-        pages = Pages(self.plan)
-        pages.write([result_of(record, match)])
+        pages = self.written([result_of(record, match)])
         titles = [cell["title"].partition(": ")[2] for cell in self.page(pages, f"matches/{match.id}.html").select("td.substituted")]
         self.assertEqual(titles, ["a list that is not closed at column 1", "a second expression begins at column 3"])
 
@@ -232,8 +234,7 @@ class PagesOfMany(unittest.TestCase):
         turns = 15
         record = record_of(match, 0) | {"errors": [["", "TO"]] * turns, "moves": [["noop", "noop"]] * turns, "states": [["(a 1)"]] * (turns + 1)}
         self.plan.folder.record(match.id).write_text(json.dumps(record))
-        pages = Pages(self.plan)
-        pages.write([result_of(record, match)])
+        pages = self.written([result_of(record, match)])
         errors = self.page(pages, f"players/player-{match.players[1]}.html").find(id="errors")
         self.assertEqual([row[1] for row in rows_of(errors)[1:]], [str(turn) for turn in range(15, 5, -1)])
         self.assertEqual(links_of(errors)[1], f"../matches/{match.id}.html#turn=15")
@@ -245,8 +246,7 @@ class PagesOfMany(unittest.TestCase):
         for times in ((1, -HOUR, -HOUR + 1), (1, -HOUR, HOUR)):
             lines = [line(match, 0, number, f"(PLAY {match.id} NIL)", "noop", 1, BEGAN + time) for number, time in enumerate(times, 2)]
             self.plan.folder.log(match.id).write_text(log_of(match, *lines))
-            pages = Pages(self.plan)
-            pages.write(self.results[:1])
+            pages = self.written(self.results[:1])
             self.assertEqual(self.last_match(pages)[-2:], ["2026-01-02 03:04:05", "the clock was set back"])
 
     def test_of_a_log_that_is_too_long_the_last_lines_are_read(self):
@@ -262,9 +262,8 @@ class PagesOfMany(unittest.TestCase):
         for most, longest, is_cut in ((len(log), "9,998 ms", True), (rest, "9,997 ms", True), (rest - 1, "9,996 ms", True), (16 << 20, "9,998 ms", False)):
             if not is_cut:
                 self.plan.folder.log(match.id).write_text(log)
-            pages = Pages(self.plan)
             with patch.object(pages_module, "MOST_OF_LOG", most):
-                pages.write(self.results[:1])
+                pages = self.written(self.results[:1])
             page = self.page(pages, name)
             self.assertEqual(rows_of(page.find(id="seats"))[1][-1], longest)
             self.assertEqual(f"in the last 16 MiB of the log of {match.id}." in text_of(page), is_cut)
@@ -280,24 +279,21 @@ class PagesOfMany(unittest.TestCase):
             said = line(match, 1, 2, f"(PLAY {match.id} NIL)", "<script>", 9_000 if match is old else 1_500)
             self.plan.folder.log(match.id).write_text(log_of(match, said))
         results = [result_of(record_of(match, number), match) for number, match in enumerate((old, new))]
-        pages = Pages(self.plan)
-        pages.write(results)
+        pages = self.written(results)
         page = self.page(pages, f"players/player-{player}.html")
         self.assertEqual(rows_of(page.find(id="seats"))[1:], [["one", "b", "1", "50.00", "1 of 1", "", "1,500 ms"]])
         self.assertEqual([row[0] for row in rows_of(page.find(id="errors"))[1:]], [new.id])
         self.assertEqual(text_of(page).count(f"{old.id} does not count: {new.id} replaces it"), 2)
         self.assertIn("1 of 299 matches are over.", text_of(self.page(pages, "index.html")))
         # Until the rematch is played, nothing counts.
-        pages = Pages(self.plan)
-        pages.write(results[:1])
+        pages = self.written(results[:1])
         page = self.page(pages, f"players/player-{player}.html")
         self.assertIn("It has played no match that counts.", text_of(page))
         self.assertEqual(text_of(page.find(id="seats")), "")
         self.assertIn("0 of 299 matches are over.", text_of(self.page(pages, "index.html")))
 
     def test_a_page_is_made_again_only_where_something_has_changed(self):
-        pages = Pages(self.plan)
-        pages.write(self.results[:2])
+        pages = self.written(self.results[:2])
         untouched, changed = pages.folder / "players/player-p24.html", pages.folder / "games/one.html"
         self.assertNotIn("p24", {player for result in self.results[:3] for player in result.match.players})
         before = untouched.stat().st_ino, changed.stat().st_ino

@@ -1,6 +1,5 @@
 """The pages of a competition: a directory of plain HTML that a browser opens without a server. They follow from the files of the competition."""
 
-import datetime
 import functools
 import hashlib
 import heapq
@@ -28,7 +27,7 @@ from ggp_tools.competition.table_text import crosstable_rows, forfeit_rule, meth
 from ggp_tools.descriptions.loading import Rules, sum_of
 from ggp_tools.holding.game import Game
 from ggp_tools.match_log import Event, last_run
-from ggp_tools.records.match_logs import logged
+from ggp_tools.records.match_logs import Beginning, logged
 from ggp_tools.records.show import Frame, Named, named_in, page_of, read_record
 from ggp_tools.templating import environment, page
 
@@ -46,7 +45,6 @@ TOGETHER = 64 << 20
 # At most this much of a match's log is read.
 MOST_OF_LOG, LOG_WORDS = 16 << 20, "16 MiB"
 
-SET_BACK = "the clock was set back"
 MATCH_HEADS = ["match", "game", "result", "players and goals", "turns", "replaced moves", "begin (UTC)", "seconds"]
 
 
@@ -72,13 +70,11 @@ def first_ranks(table: Table, is_over: bool) -> list[tuple[str, list[str]]]:
     return [(titles[rank] + "s" * (rank == 1 < len(names)), names) for rank, names in by_rank.items() if rank in titles]
 
 
-def seconds_between(times: dict) -> str:
+def seconds_of(log: Beginning) -> str:
     """Returns a text that says how long a match took. It is empty if the log does not have the times."""
-    try:
-        began, ended = (datetime.datetime.fromisoformat(times[key].replace("Z", "+00:00")) for key in ("begin", "end"))
-    except (AttributeError, ValueError):
+    if log.began is None or not log.ended:
         return ""
-    return f"{(ended - began).total_seconds():.1f}" if ended >= began and not times["isSetBack"] else SET_BACK
+    return "the clock was set back" if log.is_set_back or log.ended < log.began else f"{(log.ended - log.began) / 1_000:.1f}"
 
 
 def spelt(time: str | None) -> str:
@@ -86,7 +82,7 @@ def spelt(time: str | None) -> str:
     return (time or "").replace("T", " ")[:19]
 
 
-def match_row(result: Result, times: dict, up: str) -> Item:
+def match_row(result: Result, log: Beginning, up: str) -> Item:
     """Returns the row of a match in a list on a page whose first page is at `up`."""
     match = result.match
     goals = result.goals or ["none"] * len(match.players)
@@ -97,8 +93,8 @@ def match_row(result: Result, times: dict, up: str) -> Item:
         "remarks": list(remarks(result)),
         "turns": result.turns,
         "replaced": [(name, result.replaced(role)) for role, name in enumerate(match.players) if result.replaced(role)],
-        "begin": spelt(times["begin"]),
-        "seconds": seconds_between(times),
+        "begin": spelt(log.times()[0]),
+        "seconds": seconds_of(log),
     }
     return f"match-{match.id}", html_of("competition", "match_row", match=match, up=up, **cells)
 
@@ -142,11 +138,10 @@ class Ended:
 
 def ended_match(result: Result, record: dict, run: list[Event], is_cut: bool) -> Ended:
     """Returns what the pages show of a match, from its record and the last run in its log."""
-    of_log = logged(run)
-    begin, end, _ = of_log.times()
-    times = {"begin": begin, "end": end, "isSetBack": of_log.is_set_back}
-    rows = [match_row(result, times, up) for up in ("", "../")]
-    return Ended(result, begin, end, *rows, appearances_of(result, record, run, end), is_cut)
+    log = logged(run)
+    begin, end, _ = log.times()
+    above, below = (match_row(result, log, up) for up in ("", "../"))
+    return Ended(result, begin, end, above, below, appearances_of(result, record, run, end), is_cut)
 
 
 class Site:

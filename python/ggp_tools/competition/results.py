@@ -202,25 +202,16 @@ def read_record(data: bytes) -> dict:
     return json.loads(without_states(data))
 
 
-def forfeit_keys(result: Result) -> dict[str, object]:
-    """Returns the keys about the forfeits of a match: who has forfeited it, why, and which goals count."""
-    lost, players = result.forfeits(), result.match.players
-    if not lost:
-        return {}
-    forfeits = [{"player": players[role], "errors": why.errors, "turn": why.turn} for role, why in lost.items()]
-    return {"forfeit": forfeits, "counted": result.counted()}
-
-
-def again_keys(match: Match) -> dict[str, object]:
-    """Returns the keys about the round of a match, its replacement, and players that have withdrawn, if they apply."""
-    keys = {"round": match.round, "again": match.again, "reason": match.reason, "insteadOf": match.instead_of, "withdrawn": match.withdrawn}
-    return {key: value for key, value in keys.items() if value}
-
-
 def result_keys(result: Result) -> dict[str, object]:
-    """Returns the keys about the end of a match."""
-    ended = {"turns": result.turns, "phase": result.phase, "cause": result.cause}
-    return {"goals": result.goals, **forfeit_keys(result), **again_keys(result.match), **ended}
+    """Returns the keys about the end of a match. If they apply, there are also keys about who has forfeited it, why, and which goals count, about its
+    round, its replacement, and players that have withdrawn."""
+    match, keys = result.match, {"goals": result.goals}
+    if lost := result.forfeits():
+        keys["forfeit"] = [{"player": match.players[role], "errors": why.errors, "turn": why.turn} for role, why in lost.items()]
+        keys["counted"] = result.counted()
+    more = {"round": match.round, "again": match.again, "reason": match.reason, "insteadOf": match.instead_of, "withdrawn": match.withdrawn}
+    keys |= {key: value for key, value in more.items() if value}
+    return keys | {"turns": result.turns, "phase": result.phase, "cause": result.cause}
 
 
 def match_line(result: Result, sums: Mapping[str, str | None], logged: Beginning, broken: list[dict[str, object]]) -> bytes:
