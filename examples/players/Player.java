@@ -6,46 +6,43 @@ import com.sun.net.httpserver.HttpServer;
 import java.net.InetAddress;
 import java.net.InetSocketAddress;
 import java.nio.charset.StandardCharsets;
+import java.util.HashMap;
 import java.util.Map;
-import java.util.concurrent.ConcurrentHashMap;
 import java.util.concurrent.Executors;
-import java.util.concurrent.atomic.AtomicInteger;
 
 public class Player {
     /** A role in a match. */
     static class Match {
         final InetAddress referee;
-        /** The number of the newest message. */
-        final AtomicInteger newest = new AtomicInteger();
 
         Match(InetAddress referee, String start) {
             this.referee = referee;
             // YOURS: parse the role and the rules, and compute the first state.
         }
 
-        synchronized String play(String message, int number) {
-            // YOURS: compute the state from the moves in the message. Then search until the time is nearly over, or until
-            // number != newest.get(): the next message has come, and may wait until this method returns.
+        String play(String message) {
+            // YOURS: compute the state from the moves in the message. Then search until the play clock is nearly over: the next
+            // message waits until this method returns.
             return "noop";
         }
     }
 
-    static final Map<String, Match> matches = new ConcurrentHashMap<>();
+    static final Map<String, Match> matches = new HashMap<>();
 
     /** Returns the answer to a message, or null for a message that does not come from the match's referee. */
     static String answer(String message, String receiver, InetAddress sender) {
         String[] words = message.strip().split("[\\s()]+", 4); // an empty text, the keyword, the id, the rest
-        if (words[1].equalsIgnoreCase("INFO")) return "available";
+        if (words[1].equalsIgnoreCase("INFO")) return "available"; // YOURS: `busy` during a match
         String key = words[2] + " " + receiver;
         Match match = matches.get(key);
+        // YOURS: compare the sender with the IP addresses that the organiser names, and forget matches that got no STOP.
         if (match != null && !match.referee.equals(sender)) return null;
-        int number = match == null ? 0 : match.newest.incrementAndGet();
         switch (words[1].toUpperCase()) {
             case "START":
                 matches.put(key, new Match(sender, message));
                 return "ready";
             case "PLAY":
-                return match == null ? "unknown" : match.play(message, number);
+                return match == null ? "unknown" : match.play(message);
             default:
                 matches.remove(key);
                 return "done";
@@ -53,9 +50,12 @@ public class Player {
     }
 
     public static void main(String[] arguments) throws Exception {
+        // Seconds for a request, so that half a message does not block the player.
+        System.setProperty("sun.net.httpserver.maxReqTime", "10");
         HttpServer server = HttpServer.create(new InetSocketAddress(Integer.parseInt(arguments[0])), 0);
-        // A thread for each message, with a stack of 256 MiB for rules that depend on one another in long chains.
-        server.setExecutor(Executors.newCachedThreadPool(task -> new Thread(null, task, "message", 256 << 20)));
+        // One thread, so that messages are processed in their order. Its stack of 256 MiB is for rules that depend on one another in
+        // long chains.
+        server.setExecutor(Executors.newSingleThreadExecutor(task -> new Thread(null, task, "messages", 256 << 20)));
         server.createContext("/", exchange -> {
             try (exchange) {
                 String message = new String(exchange.getRequestBody().readAllBytes(), StandardCharsets.US_ASCII);

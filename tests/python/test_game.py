@@ -255,14 +255,14 @@ class Game(InFolder):
         goals = "(<= (goal ann ?x) (true (won ?x)))\n(goal bob 5) (goal (o 1) 5)"
         rule, fact = "sentence 0, line 1: (<= (goal ann ?x) (true (won ?x)))", "sentence 1, line 2: (goal bob 5)"
         for role, state, words in (
-            ("ann", [], f"nothing gives ann a goal there; its goals are those of {rule} and {fact} and sentence 2, line 2: (goal (o 1) 5)"),
+            ("ann", [], f"nothing gives ann a goal there; the sentences about goals are {rule} and {fact} and sentence 2, line 2: (goal (o 1) 5)"),
             ("ann", ["(won 150)"], f"ann has the goal 150 (not a number from 0 to 100), by {rule}"), ("bob", ["(won 1)"], f"bob has the goal 5, by {fact}"),
             ("ann", ["(won 9)", "(won (a))", "(won 7)", "(won 8)"], f"ann has 4 goals there: (a) (not a number from 0 to 100), by {rule}; 7, by {rule}; 8, by {rule}"),
             ("(o 1)", [], "(o 1) has the goal 5, by sentence 2, line 2: (goal (o 1) 5)"),
         ):
             self.assertEqual(goals_said(goals, role, state), words)
         self.assertEqual(goals_said("(role", "ann", []), "")
-        self.assertEqual(goals_said("(role ann)", "ann", []), "nothing gives ann a goal there; its goals are those of no sentence")
+        self.assertEqual(goals_said("(role ann)", "ann", []), "nothing gives ann a goal there; no sentence is about goals")
 
     def test_a_game_that_does_not_end(self):
         status, lines = self.look(ENDLESS, "--matches", "1")

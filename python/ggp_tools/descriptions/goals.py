@@ -23,7 +23,8 @@ def goals_said(text: str, role: str, terms: Sequence[str]) -> str:
         return f"{quoted(role)} has {len(goals):,} goals there: {'; '.join(goals[:MOST_NAMED])}"
     if goals:
         return f"{quoted(role)} has the goal {goals[0]}"
-    return f"nothing gives {quoted(role)} a goal there; its goals are those of {named(game, list(game.by_sentence(GOAL))) or 'no sentence'}"
+    numbers = list(game.by_sentence(GOAL))
+    return f"nothing gives {quoted(role)} a goal there; {f'the sentences about goals are {named(game, numbers)}' if numbers else 'no sentence is about goals'}"
 
 
 def past(value: object) -> str:
