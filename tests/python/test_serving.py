@@ -3,6 +3,7 @@
 import asyncio
 import contextlib
 import dataclasses
+import gc
 import http.client
 import inspect
 import io
@@ -589,6 +590,16 @@ class Refused(Served):
             self.assertEqual(self.ask("/", method)[0], 405, method)
             self.assertEqual(self.opened("/", method).getheader("Allow"), "GET, HEAD")
         self.assertEqual(self.ask("/", "BREW")[0], 400)
+
+    def test_addresses_that_cannot_be_read_are_not_logged(self):
+        for line in (b"GET http://[", b"CONNECT /\xff"):
+            with self.subTest(line=line), self.assertNoLogs("asyncio"):
+                with socket.create_connection(("127.0.0.1", self.port), timeout=60) as asking:
+                    asking.sendall(line + b" HTTP/1.1\r\n\r\n")
+                    with contextlib.suppress(ConnectionError):
+                        self.assertEqual(asking.recv(100), b"")
+                # A failed task is logged once it is collected.
+                self.in_loop(gc.collect)
 
     def test_head_is_answered_like_get_without_a_body(self):
         for path, host in (("/", ""), ("/metrics", ""), ("/api/matches/none", ""), ("/none.html", ""), ("/", "evil.example"), ("/api/events", "")):

@@ -79,9 +79,20 @@ class Connection(web.RequestHandler):
     def data_received(self, data: bytes) -> None:
         """Takes a part of the request. Bytes after the request or beyond the limit are ignored."""
         self.left -= len(data)
-        if self.left >= 0:
-            super().data_received(data)
-        elif self.is_idle:
+        try:
+            if self.left >= 0:
+                super().data_received(data)
+            elif self.is_idle:
+                self.end()
+        except ValueError:
+            # aiohttp does not handle the error of an address such as `http://[`.
+            self.end()
+
+    async def start(self) -> None:
+        """Answers the request, unless aiohttp cannot read its address."""
+        try:
+            await super().start()
+        except ValueError:
             self.end()
 
     def connection_lost(self, why: Exception | None) -> None:
