@@ -3,7 +3,7 @@
 import unittest
 from dataclasses import replace
 
-from ggp_tools.competition.player_pages import MOST_OF_MATCH, MoveError, appearances_of
+from ggp_tools.competition.player_pages import MoveError, appearances_of
 from ggp_tools.competition.plots import BARS, bar_of
 from ggp_tools.competition.results import result_of
 from ggp_tools.competition.schedule import Match
@@ -70,15 +70,3 @@ class Appearances(unittest.TestCase):
         three = replace(MATCH, players=("ann", "bob", "eve"))
         log = [*LOG, event_of(line(three, 2, 2, "(PLAY cup-001 NIL)", "x", 1).encode()), Open("cup-001", 1)]
         self.assertEqual(self.appearances(log=log), self.appearances())
-
-    def test_of_many_errors_the_last_ten_are_shown(self):
-        self.assertEqual(MOST_OF_MATCH, 10)
-        for count, before in ((10, 0), (12, 2)):
-            said = record(["", ""], *[["TO", ""]] * count)
-            ann, bob = self.appearances({**said, "strikes": 0}, [])
-            self.assertEqual(([error.turn for error in ann.errors], bob.errors), (list(range(2 + before, 2 + count)), ()))
-
-    def test_a_match_in_whose_place_another_was_ordered_has_no_goal(self):
-        ann, _ = self.appearances()
-        again = replace(ann.result, match=replace(MATCH, again="cup-002"))
-        self.assertIsNone(replace(ann, result=again).goal())

@@ -1,12 +1,10 @@
-"""The result of a match from its record, compared with a simple computation."""
+"""The result of a match from its record. `test_recount.py` compares who has won, and which goals count, with a simple recount."""
 
 import json
 import unittest
 from dataclasses import replace
 
-from ggp_tools.competition.results import (
-    Result, fault_of_record, forfeit_words, kind_of, match_line, remarks, result_of, retirement_of, winner_words,
-)
+from ggp_tools.competition.results import fault_of_record, forfeit_words, match_line, remarks, result_of, retirement_of, winner_words
 from ggp_tools.competition.schedule import Match
 from ggp_tools.match_log import event_of
 from ggp_tools.records.match_logs import Beginning, logged
@@ -50,9 +48,6 @@ class Results(unittest.TestCase):
         self.assertEqual((found.goals, found.turns, found.phase, found.cause), ((100, 0), 3, "finished", None))
         self.assertEqual([found.replaced(role) for role in (0, 1)], [2, 2])
 
-    def test_the_kind_of_an_error_is_its_first_word(self):
-        self.assertEqual([kind_of(error) for error in ("IL ?", "IL x", "IL (a b)", "TO", "CE", "RT")], ["IL", "IL", "IL", "TO", "CE", "RT"])
-
     def test_strikes_count_in_a_row(self):
         def retired(strikes, *errors):
             found = retirement_of(record(strikes=strikes, errors=[[error] for error in errors]), 0)
@@ -65,18 +60,6 @@ class Results(unittest.TestCase):
         for strikes, *errors in ((2, "TO", "", "TO"), (3, "TO", "TO", "", "TO"), (1, "", ""), (0, "TO", "TO"), (255, *["TO"] * 254)):
             self.assertIsNone(retired(strikes, *errors))
         self.assertEqual(retired(255, *["TO"] * 256), "TO in turns 1 to 255")
-
-    def test_each_role_has_strikes_of_its_own(self):
-        self.assertEqual([bool(why) for why in result_of(RECORD, MATCH).retirements], [True, False])
-
-    def test_a_role_is_absent_if_each_of_its_moves_was_replaced(self):
-        def absent(*errors):
-            return result_of(record(moves=[["m", "n"]] * len(errors), errors=[[error, ""] for error in errors]), MATCH).is_absent(0)
-
-        self.assertTrue(absent("TO"))
-        self.assertTrue(absent("TO", "CE", "IL x"))
-        self.assertFalse(absent("TO", ""))
-        self.assertFalse(absent())
 
 
 LOGGED = logged([event_of(line(MATCH, role, 1, "(START cup-001 o ... 10 5)", "ready", 3 + role).encode()) for role in (0, 1)])
@@ -105,53 +88,19 @@ class Forfeits(unittest.TestCase):
         self.assertEqual(said["forfeit"], [{"player": "ann", "errors": ["CE", "IL"], "turn": 3}])
         self.assertEqual((forfeit_words(result_of(RECORD, MATCH)), result_of(RECORD, MATCH).counted()), ("", (100, 0)))
 
-    def test_a_single_opponent_gets_the_full_goal_and_several_keep_theirs(self):
-        for roles in range(1, 17):
-            for lost in range(roles + 1):
-                for goals in ([7] * roles, [100, *[0] * (roles - 1)], []):
-                    errors = [["TO" if role < lost else "" for role in range(roles)]]
-                    match = Match("m", "game", 1, 1, tuple(f"p{role}" for role in range(roles)))
-                    found = result_of(record(strikes=1, moves=[["x"] * roles], errors=errors, goalValues=goals), match, True)
-                    wanted = tuple(goals) or (None,) * roles
-                    if lost and roles > 2 and goals:
-                        wanted = (0,) * lost + tuple(goals[lost:])
-                    elif lost:
-                        wanted = tuple(0 if role < lost else int(100 / (roles - lost)) for role in range(roles))
-                    self.assertEqual(found.counted(), wanted, (roles, lost, goals))
-                    self.assertEqual(list(found.forfeits()), list(range(lost)))
 
-
-class Outcomes(unittest.TestCase):
-    def outcomes(self, *words):
-        """Returns the outcome of a match for each role."""
-        found = self.result(*words)
-        return [found.outcome(role) for role in range(len(found.match.players))]
-
-    def result(self, goals, lost=(), has_forfeits=True):
-        """Returns the result of a match in which these roles were retired."""
+class Winners(unittest.TestCase):
+    def result(self, goals, lost=()):
+        """Returns the result of a match in which the players of these roles forfeited."""
         roles = len(goals) or 2
         errors = [["TO" if role in lost else "" for role in range(roles)]]
         match = Match("m", "game", 1, 1, tuple(f"p{role}" for role in range(roles)))
-        return result_of(record(strikes=1, moves=[["x"] * roles], errors=errors, goalValues=goals), match, has_forfeits)
+        return result_of(record(strikes=1, moves=[["x"] * roles], errors=errors, goalValues=goals), match, True)
 
     def test_who_won_is_said(self):
         for goals, said in (([100, 0], "p0 won."), ([70, 70, 0], "p0 and p1 drew."), ([50, 50], "p0 and p1 drew."), ([100], ""), ([], "")):
             self.assertEqual(winner_words(self.result(goals)), said)
         self.assertEqual(winner_words(self.result([100, 0], [0])), "p1 won.")
-
-    def test_the_highest_goal_wins_alone_and_is_drawn_by_several(self):
-        for goals, wanted in (
-            ([100, 0], "WL"), ([0, 100], "LW"), ([50, 50], "DD"), ([0, 0], "DD"), ([1, 0], "WL"), ([70, 30, 0], "WLL"), ([70, 70, 0], "DDL"), ([5, 5, 5], "DDD"), ([0, 7, 7], "LDD"),
-        ):
-            self.assertEqual("".join(word[0].upper() for word in self.outcomes(goals)), wanted, goals)
-
-    def test_a_match_of_one_role_or_without_goals_has_none(self):
-        self.assertEqual((self.outcomes([100]), self.outcomes([]), self.outcomes([100], [0])), ([None], [None] * 2, [None]))
-
-    def test_who_forfeits_has_lost_whatever_the_goals(self):
-        for goals, lost, wanted in (([100, 0], [0], "LW"), ([], [1], "WL"), ([50, 50], [0, 1], "LL"), ([0, 0, 0], [1], "DLD"), ([0, 50, 100], [1], "LLW"), ([0, 0, 100], [1, 2], "WLL")):
-            self.assertEqual("".join(word[0].upper() for word in self.outcomes(goals, lost)), wanted, (goals, lost))
-        self.assertEqual(self.outcomes([100, 0], [0], False), ["won", "lost"])
 
 
 class Remarks(unittest.TestCase):
@@ -171,10 +120,3 @@ class Remarks(unittest.TestCase):
         said = json.loads(match_line(result_of(RECORD, MATCH), SUMS, Beginning(), []))
         self.assertFalse({"round", "again", "reason", "insteadOf"} & said.keys())
         self.assertEqual([said[key] for key in ("begin", "end", "host")], [None] * 3)
-
-
-class Values(unittest.TestCase):
-    def test_without_a_word_of_it_there_are_no_forfeits(self):
-        found = result_of(RECORD, MATCH)
-        self.assertEqual(Result(MATCH, found.goals, found.turns, found.errors, found.retirements, "finished", None).forfeits(), {})
-

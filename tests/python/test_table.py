@@ -9,7 +9,7 @@ from dataclasses import replace
 from ggp_tools.competition.competition_file import read_competition
 from ggp_tools.competition.plan import Plan
 from ggp_tools.competition.ratings import Rating
-from ggp_tools.competition.results import Result, Retirement, result_of
+from ggp_tools.competition.results import Result, Retirement
 from ggp_tools.competition.rounds import Round
 from ggp_tools.competition.schedule import Match
 from ggp_tools.competition.table import Line, Table, tables_of
@@ -58,34 +58,13 @@ class Tables(unittest.TestCase):
 
     def test_who_made_no_move_is_told(self):
         results = [result(["ann", "bob"], [100, 0], [0, 5]), result(["bob", "ann"], [0, 100], [5, 0]), result(["bob", "cid"], [100, 0], [5, 4])]
-        table = tables_of(competition(), results)[0]
-        self.assertEqual([(standing.player, standing.absent) for standing in table.standings()], [("ann", 0), ("bob", 3), ("cid", 0)])
-        said = table_files(Plan(None, competition(), {}, [played.match for played in results]), [table])["table.txt"].decode()
-        self.assertIn("* bob made no move of its own: all of its moves were replaced", said)
-
-    def test_forfeit(self):
-        def found(forfeit, goals, retired):
-            lines = tables_of(competition(), [result(["ann", "bob"], goals, [0, 5], retired=retired, forfeit=forfeit)])[0].lines
-            return [(of.won, of.lost, of.mean(), of.won_by_forfeit, of.lost_by_forfeit) for of in (lines["ann"], lines["bob"])]
-
-        self.assertEqual(found(False, [0, 100], [False, True]), [(0, 1, 0, 0, 0), (1, 0, 100, 0, 0)])
-        # The goals after replaced moves make no difference, even if there are none.
-        for goals in ([0, 100], [100, 0], [50, 50], [30, 10], []):
-            self.assertEqual(found(True, goals, [False, True]), [(1, 0, 100, 1, 0), (0, 1, 0, 0, 1)])
-            self.assertEqual(found(True, goals, [True, True]), [(0, 1, 0, 0, 1), (0, 1, 0, 0, 1)])
-        self.assertEqual(found(False, [], [False, True]), [(0, 0, None, 0, 0), (0, 0, None, 0, 0)])
-        both = [result(["ann", "bob"], [], [5, 5], retired=[True, True])]
-        self.assertEqual(tables_of(competition(), both)[0].met, {})
+        text = table_files(Plan(None, competition(), {}, [played.match for played in results]), tables_of(competition(), results))["table.txt"].decode()
+        self.assertIn("* bob made no move of its own: all of its moves were replaced", text)
 
     def test_a_match_that_all_have_forfeited_shows_the_forfeits(self):
         table = tables_of(competition(), [result(["ann", "bob"], [50, 50], [5, 5], retired=[True, True])])[0]
         rows = list(standings_rows(table))
         self.assertEqual([row[rows[0].index("by forfeit")] for row in rows[1:]], ["0 won, 1 lost"] * 2)
-
-    def test_who_was_retired_is_counted(self):
-        for forfeit in (False, True):
-            lines = tables_of(competition(), [result(["ann", "bob"], [0, 100], retired=[False, True], forfeit=forfeit)] * 2)[0].lines
-            self.assertEqual((lines["ann"].retired, lines["bob"].retired), (0, 2))
 
     def test_substituted_moves_do_not_decide_places(self):
         # By goals only, bob would be above ann, with fewer wins.
@@ -97,50 +76,9 @@ class Tables(unittest.TestCase):
         self.assertEqual([row[rows[0].index("by forfeit")] for row in rows[1:]], ["10 won, 0 lost", "0 won, 0 lost", "0 won, 0 lost", "0 won, 10 lost"])
         self.assertNotIn("by forfeit", next(standings_rows(tables_of(competition(), results[10:])[0])))
 
-    def test_a_forfeit_with_more_players(self):
-        for goals in ([0, 100, 0], [100, 0, 0], [0, 0, 100], []):
-            three = [result(["ann", "bob", "cid"], goals, [0, 5, 0], retired=[False, True, False], game="three")]
-            table = tables_of(competition(), three)[0]
-            found = [(of.won, of.drawn, of.lost, of.mean()) for of in map(table.lines.get, ("ann", "bob", "cid"))]
-            # The others keep their goals, and share 100 if there are none.
-            ann, _, cid = goals or (50, 0, 50)
-            self.assertEqual(found, [(ann > cid, ann == cid, ann < cid, ann), (0, 0, 1, 0), (cid > ann, ann == cid, cid < ann, cid)])
-            self.assertEqual([table.points[pair] for pair in (("ann", "bob"), ("bob", "ann"), ("ann", "cid"))], [1, 0, (1 + (ann > cid) - (ann < cid)) / 2])
-            two = tables_of(competition(), [result(["ann", "bob", "cid"], goals, retired=[True, True, False], game="three")])[0]
-            self.assertEqual([(of.won, of.lost, of.mean()) for of in map(two.lines.get, ("ann", "cid"))], [(0, 1, 0), (1, 0, goals[2] if goals else 100)])
-
-    def test_the_order_by_points(self):
-        # More goals for ann, more points for bob.
-        results = [result(["ann", "bob"], [60, 70]), result(["ann", "cid"], [90, 10]), result(["bob", "cid"], [40, 40]), result(["dan", "cid"], [0, 5])]
-        for head, order, places in (("", ["ann", "bob", "cid", "dan"], [1, 2, 3, 4]), ('order = "points"', ["bob", "cid", "ann", "dan"], [1, 2, 3, 4])):
-            table = tables_of(competition(head), results)[0]
-            self.assertEqual(([of.player for of in table.standings()], table.ranks()), (order, places))
-        self.assertEqual([of.points() for of in table.standings()], [1.5, 1.5, 1, 0])
-        rows = list(standings_rows(table))
-        self.assertEqual([row[3] for row in rows], ["points", "1.5", "1.5", "1", "0"])
-
-    def test_three_players(self):
-        results = [result(["ann", "bob", "cid"], [50, 50, 0], game="three")]
-        found = [line(results, name) for name in ("ann", "bob", "cid")]
-        self.assertEqual([(row.won, row.drawn, row.lost) for row in found], [(0, 1, 0), (0, 1, 0), (0, 0, 1)])
-        table = tables_of(competition(), results)[0]
-        self.assertEqual([table.points[pair] for pair in (("ann", "bob"), ("bob", "ann"), ("ann", "cid"), ("cid", "ann"))], [0.5, 0.5, 1, 0])
-
-    def test_no_goals_and_one_role(self):
-        results = [result(["ann", "bob"], []), result(["ann"], [40], game="one")]
-        found = line(results, "ann")
-        self.assertEqual((found.matches, found.mean(), found.won, found.drawn, found.lost), (2, 40, 0, 0, 0))
-        self.assertIsNone(line(results, "bob").mean())
-
-    def test_who_is_retired(self):
-        record = {"errors": [["", "TO"], ["CE", "TO"], ["", "RT"]], "moves": [[], [], []], "goalValues": [1, 2], "strikes": 2, "phase": "finished", "cause": None}
-        match = Match("m", "two", 1, 1, ("ann", "bob"))
-        self.assertEqual(result_of(record, match).retirements, (None, Retirement(("TO", "TO"), 2)))
-        self.assertEqual(result_of({**record, "strikes": 0}, match).retirements, (None, None))
-        # If the match ended with the last strike, there is no `RT`.
-        last = {**record, "errors": [["", ""], ["", "TO"], ["", "IL x"]]}
-        self.assertEqual(result_of(last, match).retirements, (None, Retirement(("TO", "IL"), 3)))
-        self.assertEqual(result_of(last, match).errors[1], {"TO": 1, "IL": 1})
+    def test_the_points_are_shown_if_they_decide(self):
+        table = tables_of(competition('order = "points"'), [result(["ann", "bob"], [60, 70]), result(["bob", "cid"], [40, 40])])[0]
+        self.assertEqual([row[3] for row in standings_rows(table)], ["points", "1.5", "0.5", "0"])
 
     def test_a_match_that_was_ordered_again_counts_for_nobody(self):
         first, second = result(["ann", "bob"], [100, 0]), result(["ann", "bob"], [0, 100])
@@ -150,21 +88,6 @@ class Tables(unittest.TestCase):
         files = table_files(Plan(None, competition(), {}, [first.match, second.match]), tables)
         self.assertIn("cup: 1 of 1 matches\n", files["table.txt"].decode())
         self.assertIn("* m does not count: m2 replaces it: the host's cable\n", files["table.txt"].decode())
-
-    def test_a_line_and_a_table_begin_with_nothing(self):
-        values = vars(Line("x"))
-        self.assertEqual({name: value for name, value in values.items() if value}, {"player": "x"})
-        self.assertEqual([name for name, value in values.items() if value is None], ["rating", "round_points", "buchholz", "rounds_won"])
-        table = Table("two", {})
-        self.assertEqual((table.matches, table.points, table.met, table.by, table.again, table.rounds, table.standings(), table.ranks(), table.is_of_pairs(), table.has_forfeits()), (0, {}, {}, "", [], (), [], [], False, False))
-
-    def test_what_orders_a_line(self):
-        line = Line("x", scored=3, goals=200, won=3, drawn=3, lost=1, round_points=8.5)
-        self.assertEqual((line.points(), line.mean(), Line("x", scored=3, goals=100).mean(), Line("x").mean()), (8.5, 66.67, 33.33, None))
-        self.assertEqual((line.order("goals"), line.order("points")), ((-66.67, -3, 1), (-8.5, -66.67, -3, 1)))
-        self.assertEqual((Line("x").order("goals"), Line("x").order("points")), ((0, 0, 0), (0, 0, 0, 0)))
-        self.assertEqual((line.order("swiss"), replace(line, buchholz=2.5).order("swiss")), ((-8.5, 0), (-8.5, -2.5)))
-        self.assertEqual((line.order("knockout"), replace(line, rounds_won=2).order("knockout")), ((0,), (-2,)))
 
     def by_rounds(self, kind, rounds, results):
         """Returns the tables of a competition in rounds. A result has the players of a match, the goals, the round, and the match that replaces

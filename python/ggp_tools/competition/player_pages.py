@@ -46,8 +46,8 @@ class Appearance:
     errors: tuple[MoveError, ...]
 
     def goal(self) -> int | None:
-        """Returns the goal that counts, or None. A match that another one replaces has none."""
-        return None if not self.result.match.counts() else self.result.counted()[self.role]
+        """Returns the goal that counts, or None if the match has no goals."""
+        return self.result.counted()[self.role]
 
 
 def times_of_role(asked: list[Message]) -> tuple[tuple[int, ...], int | None, int | None]:
