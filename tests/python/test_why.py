@@ -29,6 +29,13 @@ class Why(InFolder):
     def journal(self):
         return (self.folder / "play.log").read_text().splitlines()
 
+    def explained(self, record=None, names=("ann", "bob"), **match):
+        """Returns the explanation of the first match of these players, with this record."""
+        plan = plan_in(str(self.folder), list(names))
+        explained = Explanation(plan, replace(plan.matches[0], **match))
+        explained.record = record
+        return explained
+
     def test_turn_by_turn_with_the_times(self):
         self.planned("good", "lying")
         self.assertEqual(run(self.folder, "play")[0], 0)
@@ -156,30 +163,22 @@ class Why(InFolder):
         self.assertIn(f"turn 4: PLAY was answered `{SILENT}` after 5 ms; {text}", said)
 
     def test_where_a_move_would_be_legal(self):
-        plan = plan_in(str(self.folder), ["ann", "bob"])
-        match = plan.matches[0]
-        explained = Explanation(plan, match)
-        explained.record = {"states": [["(heap 2)", "(turn red)"], ["(heap 1)", "(turn blue)"]]}
+        explained = self.explained({"states": [["(heap 2)", "(turn red)"], ["(heap 1)", "(turn blue)"]]})
         self.assertEqual([explained.roles, explained.illegal.legal(0, 0), explained.illegal.legal(1, 0)], [("red", "blue"), ["(take 1)", "(take 2)"], ["noop"]])
         self.assertEqual(explained.illegal_text(0, 0, "IL noop", "noop"), ", which has 2: (take 1), (take 2); it is legal for blue")
         self.assertEqual(explained.illegal_text(0, 1, "IL (take 2)", "(take 2)"), ", which has 1: noop; it was legal in the turn before")
         self.assertEqual(explained.illegal_text(0, 0, "IL (take 3)", "(take 3)"), ", which has 2: (take 1), (take 2)")
         self.assertEqual([explained.illegal_text(0, 0, error, "") for error in ("TO", "CE", "RT")], ["", "", ""])
         for states in ([], [["(heap 2"]], [[]]):
-            explained = Explanation(plan, match)
-            explained.record = {"states": states}
-            self.assertEqual(explained.illegal_text(0, 0, "IL noop", "noop"), "")
+            self.assertEqual(self.explained({"states": states}).illegal_text(0, 0, "IL noop", "noop"), "")
 
     def test_turns_in_a_row_without_a_move_of_its_own(self):
-        plan = plan_in(str(self.folder), ["ann", "bob"])
-        explained = Explanation(plan, plan.matches[0])
         errors = [["TO", ""], ["", ""], ["TO", ""], ["TO", ""], ["RT", ""]]
-        explained.record = {"states": [["(heap 3)"]] * 6, "moves": [["noop", "noop"]] * 5, "errors": errors, "strikes": 2}
+        explained = self.explained({"states": [["(heap 3)"]] * 6, "moves": [["noop", "noop"]] * 5, "errors": errors, "strikes": 2})
         said = [re.findall(r"turn \d in a row|so it is retired", explained.turn_text(0, turn, "")) for turn in range(5)]
         self.assertEqual(said, [[], [], [], ["turn 2 in a row", "so it is retired"], ["turn 3 in a row"]])
 
     def test_a_player_with_the_name_of_a_match(self):
-        plan = plan_in(str(self.folder), ["cup-001", "bob"])
         lines = [
             "info cup-001 cup-001: available, 0.0 s", "info cup-002 cup-001: available, 0.0 s", "begin cup-002 heap bob cup-001",
             "begin cup-001 heap cup-001 bob", "end cup-002 heap bob 100, cup-001 0, 3.1 s", "no answer to abort cup-001: h:1",
@@ -188,12 +187,11 @@ class Why(InFolder):
             # In a competition that has grown, an id may begin with the id of another match.
             "begin cup-0010 heap cup-001 bob", "stopped heap is not played any more, because cup-0010 does not follow its description", "round 10 of 12: cup-001 to cup-002",
         ]
-        plan.folder.journal.write_text("".join(f"2026-01-01T00:00:00.000Z {line}\n" for line in lines))
-        explained = Explanation(plan, plan.matches[0])
-        self.assertEqual([note.text for note in explained.notes()], [lines[at] for at in (0, 3, 5, 6)])
-        self.assertEqual([note.role for note in explained.notes()], [0, None, None, None])
-        of_round = Explanation(plan, replace(plan.matches[0], round=1))
-        self.assertEqual([note.text for note in of_round.notes()], [lines[at] for at in (0, 3, 5, 6, 7)])
+        (self.folder / "play.log").write_text("".join(f"2026-01-01T00:00:00.000Z {line}\n" for line in lines))
+        notes = list(self.explained(names=("cup-001", "bob")).notes())
+        self.assertEqual([note.text for note in notes], [lines[at] for at in (0, 3, 5, 6)])
+        self.assertEqual([note.role for note in notes], [0, None, None, None])
+        self.assertEqual([note.text for note in self.explained(names=("cup-001", "bob"), round=1).notes()], [lines[at] for at in (0, 3, 5, 6, 7)])
 
     def said_of(self, notes: str, log: str, *players: str) -> str:
         """Returns the report about players from a journal and a log. `MATCH` in the notes means the match."""
