@@ -131,18 +131,6 @@ class Lines(InRoom):
         self.look(reader)
         return reader.open[self.match.id]
 
-    def test_a_player_that_is_retired_is_not_awaited(self):
-        for one, two in (("(bad)", "(bad)"), (SILENT, Missed("CE (no connection)")), ("a b", "; (take 1)")):
-            turns = self.play(2, "NIL", [one, "noop"]), self.play(3, "((take 1) noop)", [two, "(take 1)"])
-            self.assertEqual(self.seen_after(*turns).awaited(), [0])
-            seen = self.seen_after(*turns, strikes=2)
-            self.assertEqual((seen.turn(), seen.awaited()), (3, [1]))
-            seen = self.seen_after(*turns, self.play(4, "(noop (take 1))", ["", "noop"], [1]), strikes=2)
-            self.assertEqual((seen.turn(), seen.is_ending(), seen.replaced[-1].error), (4, True, "RT"))
-        # A move of the player ends the series.
-        own = self.play(3, "((take 1) noop)", ["noop", "(take 1)"]) + self.play(4, "(noop (take 1))", ["a b", "noop"])
-        self.assertEqual(self.seen_after(self.play(2, "NIL", ["(bad)", "noop"]), own, strikes=2).awaited(), [0, 1])
-
     def test_a_match_whose_players_are_all_retired(self):
         seen = self.seen_after(self.play(2, "NIL", [SILENT, "a b"]), strikes=1)
         self.assertEqual((seen.awaited(), seen.is_ending()), ([0, 1], True))
@@ -220,16 +208,10 @@ class Lines(InRoom):
         shown = str(replaced_part(reader.last_replaced()).text)
         self.assertEqual((shown.count("earlier"), "and 2 earlier" in shown), (2, True))
 
-    def test_stages_and_the_end(self):
-        room, reader = self.plan.folder.open / self.match.id, self.reader()
-        room.mkdir()
-        (room / "asking").touch()
-        look(reader)
-        self.assertEqual(reader.open[self.match.id].stage, "asking")
+    def test_the_end(self):
         begin(self.plan, self.match, started(self.match))
-        (room / "checking").touch()
+        reader = self.reader()
         look(reader)
-        self.assertEqual(reader.open[self.match.id].stage, "checking")
         moves, errors = [["(take 1)", "noop"], ["noop", "(take 2)"]], [["", ""], ["IL x", ""]]
         end(self.plan, self.match, record_of(self.match, moves, errors, [0, 100]))
         look(reader)

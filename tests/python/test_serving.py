@@ -458,6 +458,13 @@ class Delayed(Served):
         first = self.page("/")
         return re.search("[0-9]+ match(es are| is) open", first)[0], re.search("[0-9]+ of 6", first)[0]
 
+    def assert_shown_late(self, is_shown):
+        """Checks that something is shown only after the delay."""
+        for seconds, expected in ((1, False), (58, False), (62, True)):
+            self.look_at(seconds)
+            self.look()
+            self.assertEqual(is_shown(), expected, seconds)
+
     def test_everything_is_shown_late(self):
         # The log and the record may have any time of day, or none.
         for time_of_day in (None, 0, 10**12, 10**14):
@@ -473,12 +480,7 @@ class Delayed(Served):
         other = log.with_name("other")
         other.write_text(started(match) + self.play(match, 2, "NIL", ["(take 2)", "noop"]))
         other.replace(log)
-        shown = []
-        for seconds in (1, 58, 62):
-            self.look_at(seconds)
-            self.look()
-            shown.append("(take 2)" in self.page(f"/api/matches/{match.id}"))
-        self.assertEqual(shown, [False, False, True])
+        self.assert_shown_late(lambda: "(take 2)" in self.page(f"/api/matches/{match.id}"))
 
     def look_at_a_match(self, time_of_day):
         match = self.plan.matches[0]
@@ -527,31 +529,17 @@ class Delayed(Served):
         other = self.plan.folder.journal.with_name("other")
         other.write_text(words.format(match.id, "bob is silent"))
         other.replace(self.plan.folder.journal)
-        shown = []
-        for seconds in (1, 58, 62):
-            self.look_at(seconds)
-            shown.append("bob is silent" in self.page("/"))
-        self.assertEqual(shown, [False, False, True])
+        self.assert_shown_late(lambda: "bob is silent" in self.page("/"))
 
     def test_a_plan_is_shown_late(self):
-        self.plan.folder.schedule.write_text("another")
-        # The file's modification time does not matter.
-        os.utime(self.plan.folder.schedule, (0, 0))
-        reader = self.site.reader
-        self.look()
-        self.look_at(59)
-        self.assertIs(self.site.reader, reader)
-        self.look_at(2)
-        self.assertIsNot(self.site.reader, reader)
-
-
-    def test_a_plan_that_changes_often_is_shown_late(self):
         plans = []
         for at in range(5):
             self.moment += 30
             plans.append(dataclasses.replace(self.plan))
             self.site.read_plan = lambda: plans[-1]
             self.plan.folder.schedule.write_text("x" * at)
+            # The file's modification time does not matter.
+            os.utime(self.plan.folder.schedule, (at, at))
             self.site.update()
             self.assertIs(self.site.plan, self.plan if at < 2 else plans[at - 2])
 
