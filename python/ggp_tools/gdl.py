@@ -59,10 +59,15 @@ def must_be_term(expression: Expression) -> None:
             must_be_term(member)
 
 
+def form(name: str, count: int | None) -> str:
+    """Returns the form of an atomic sentence with this number of arguments."""
+    return name if count is None else f"({' '.join([name] + ['_'] * count)})"
+
+
 def form_of(name: str) -> str:
     """Returns the form of a sentence or a condition of GDL with this name. The text is empty if there are several forms."""
     if name in ARITIES:
-        return f"({' '.join([name] + ['_'] * ARITIES[name])})" if ARITIES[name] else name
+        return form(name, ARITIES[name])
     return {"not": "(not _)", "distinct": "(distinct _ _)", "or": "(or _ ..) in the body of a rule", "<=": "(<= _ ..) as a whole sentence"}.get(name, "")
 
 
@@ -165,12 +170,8 @@ def rules_of(number: int, sentence: Expression, names: Iterator[str]) -> list[Ru
 
 def lines_of(text: str) -> list[int]:
     """Returns the line in which each sentence of a text begins, counted from 1."""
-    lines, line, last = [], 1, 0
-    for index in starts(text):
-        line += text.count("\n", last, index)
-        last = index
-        lines.append(line)
-    return lines
+    counts = (text.count("\n", last, index) for last, index in itertools.pairwise([0, *starts(text)]))
+    return [1 + count for count in itertools.accumulate(counts)]
 
 
 def cited(number: int, sentences: Sequence[Expression], lines: Sequence[int] = ()) -> str:
@@ -275,10 +276,6 @@ class Relations:
         self.group = {relation: number for number, group in enumerate(groups) for relation in group}
         self.circular = {relation for group in groups for relation in group if len(group) > 1 or relation in self.asks[relation]}
 
-    def reached(self, relations: Iterable[Relation]) -> set[Relation]:
-        """Returns the relations that these depend on."""
-        return reached(self.asks, relations)
-
     def unsettled(self) -> set[Relation]:
         """Returns the relations that the grounder cannot evaluate: they depend on the state, on moves, or on their own negation."""
         first = {("true", 1), ("does", 2)}
@@ -292,7 +289,7 @@ class Relations:
     def bearing(self) -> set[Relation]:
         """Returns the relations that define the game, and those that these depend on."""
         own = [(name, ARITIES[name]) for name in GAME]
-        return {*own, ("true", 1), ("does", 2), *self.reached(own)}
+        return {*own, ("true", 1), ("does", 2), *reached(self.asks, own)}
 
     def refuse_dependence(self) -> None:
         refuse_dependence(self.asks, lambda head, asked: self.sources[head, asked])

@@ -11,6 +11,7 @@ from typing import BinaryIO
 
 from ggp_tools.moments import moment_at
 from ggp_tools.printable import printable
+from ggp_tools.streams import limited_lines
 
 # An answer has at most 65,536 bytes, each of at most six characters. Longer lines are not events, and are not kept in memory.
 LONGEST_LINE = 1 << 23
@@ -167,12 +168,7 @@ def line_of(event: Event) -> bytes:
 
 def whole_lines(file: BinaryIO) -> Iterator[bytes]:
     """Yields the lines of a file from its current position. It skips lines that are too long, and an unfinished last line."""
-    while line := file.readline(LONGEST_LINE):
-        rest = line
-        while rest and not rest.endswith(b"\n"):
-            rest = file.readline(LONGEST_LINE)
-        if rest is line:
-            yield line
+    return (line for line, is_whole in limited_lines(file, LONGEST_LINE) if is_whole and line.endswith(b"\n"))
 
 
 def events(file: BinaryIO) -> Iterator[Event]:

@@ -43,6 +43,15 @@ def opened(name: str | pathlib.Path) -> Iterator[BinaryIO]:
         raise OSError(why.errno, why.strerror, why.filename or where) from None
 
 
+def limited_lines(file: BinaryIO, most: int) -> Iterator[tuple[bytes, bool]]:
+    """Yields at most this many bytes of each line of a file, and whether that is the whole line. The rest of a line is never in memory."""
+    while line := file.readline(most):
+        rest = line
+        while len(rest) == most and not rest.endswith(b"\n"):
+            rest = file.readline(most)
+        yield line, rest is line
+
+
 def lead_nowhere(output: TextIO | None) -> None:
     """Discards everything that is written to an output from now on, and everything that the output has buffered."""
     os.dup2(os.open(os.devnull, os.O_WRONLY), output.fileno())

@@ -7,7 +7,7 @@ from unittest import mock
 
 from ggp_tools.instantiating import rounds
 from ggp_tools.instantiating.grounding import ground, in_order, needed, possible, sentence_of, shortened
-from ggp_tools.gdl import Literal, Relations, Rule, all_rules
+from ggp_tools.gdl import Literal, Relations, Rule, all_rules, reached
 from ggp_tools.holding.reading import rules_of as interpreted
 from ggp_tools.instantiating.splitting import FEW_VARIABLES, MOST_LITERALS, split
 from ggp_tools.instantiating.for_players import text_for_players
@@ -60,7 +60,7 @@ class Dependence(unittest.TestCase):
     def test_what_depends_on_what(self):
         found = Relations(rules("(<= p q (not (r a))) (<= q (s a b)) (<= (t ?x) (u ?x) (distinct ?x a))"))
         self.assertEqual(found.asks, {("p", None): {("q", None), ("r", 1)}, ("q", None): {("s", 2)}, ("t", 1): {("u", 1)}})
-        self.assertEqual((found.reached([("p", None)]), found.reached([("s", 2)])), ({("q", None), ("r", 1), ("s", 2)}, set()))
+        self.assertEqual((reached(found.asks, [("p", None)]), reached(found.asks, [("s", 2)])), ({("q", None), ("r", 1), ("s", 2)}, set()))
         self.assertEqual(found.circular, set())
         self.assertEqual(Relations(rules("(<= p q) (<= q p) (<= r (not r)) (<= s p)")).circular, {("p", None), ("q", None), ("r", None)})
 

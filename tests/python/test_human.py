@@ -454,7 +454,9 @@ class Pages(unittest.TestCase):
             for source in sources:
                 self.half(source, -(-200 // len(sources)))
             self.assertEqual(self.request("POST", "/", "(INFO)").read(), b"available")
-            self.assertLessEqual(len(self.server.requests), MOST_CONNECTIONS)
+            # A connection that gave way is counted until its thread has ended.
+            while len(self.server.requests) > MOST_CONNECTIONS:
+                time.sleep(0.01)
 
     def test_long_bodies_that_trickle_in_keep_no_long_start_out(self):
         self.seat.page_opens(1)

@@ -38,7 +38,7 @@ def description_of(plan: Plan, game: Game) -> tuple[bytes | None, str | None]:
 
 def comparisons(path: pathlib.Path, records: Sequence[bytes]) -> list[str]:
     """Compares each record, a line of bytes, with a description, and returns the results."""
-    run = run_module("holding", f"--seconds={SECONDS}", "--", str(path), data=b"".join(records))
+    run = run_module("holding.command", f"--seconds={SECONDS}", "--", str(path), data=b"".join(records))
     lines = run.stdout.decode("ascii", "replace").splitlines()
     if run.returncode not in (SAME, DIFFERENT, NOT_FOLLOWED) or len(lines) != len(records):
         last = (run.stderr.decode("ascii", "replace").strip().splitlines() or [ended_words(run.returncode)])[-1]

@@ -101,7 +101,7 @@ def instantiated(path: pathlib.Path, text: bytes, tells_variables: bool, seconds
         player_rules = pathlib.Path(directory) / "player_rules"
         words = [f"--seconds={seconds}", *large, *(["--player-rules", str(player_rules)] if tells_variables else [])]
         # A name that begins with a hyphen would be an option.
-        run = run_module("instantiating", *words, os.path.abspath(path))
+        run = run_module("instantiating.command", *words, os.path.abspath(path))
         if run.returncode:
             raise (Stopped if STOPPED.match(why_not(run).splitlines()[-1]) else NoDescription)(why_not(run))
         result = run.stdout, player_rules.read_bytes() if tells_variables else None

@@ -11,6 +11,7 @@ from dataclasses import dataclass
 from ggp_tools.descriptions.suspicious import TimeIsOver, is_too_long
 from ggp_tools.holding.game import MOST_CALLS, Game
 from ggp_tools.holding.match import Match, texts_of
+from ggp_tools.holding.positions import State
 from ggp_tools.kif import Expression, spelled
 from ggp_tools.printable import counted
 from ggp_tools.records.record import is_list, is_text, list_of
@@ -24,12 +25,18 @@ BESIDE_TURNS = 10_000
 
 
 def sum_of(texts: list[str]) -> bytes:
-    """Returns a checksum of the terms of a state. For most states only this is kept."""
     return hashlib.sha256("\n".join(texts).encode()).digest()
 
 
+def sum_of_state(state: State | bytes) -> bytes:
+    """Returns the checksum of a state, which may be known already."""
+    return state if isinstance(state, bytes) else sum_of(texts_of(state))
+
+
 class Played(Match):
-    """A match that keeps its last state, and only checksums of the earlier ones."""
+    """A match that keeps its last state, and only checksums of the earlier ones. Its record has checksums instead of states."""
+
+    recorded = staticmethod(sum_of_state)
 
     def __init__(self, game: Game, name: str, players: list[str]) -> None:
         super().__init__(game, name, 1, 1, players)
@@ -38,7 +45,7 @@ class Played(Match):
 
     def turn(self, judged: list[tuple]) -> None:
         super().turn(judged)
-        self.states[-2] = sum_of(texts_of(self.states[-2]))
+        self.states[-2] = sum_of_state(self.states[-2])
         self.room -= sum(len(line) + 1 for line in turn_lines(self, len(self.moves)))
         if self.room >= 0:
             self.held = len(self.moves), self.states[-1]
@@ -48,14 +55,6 @@ class Played(Match):
         turns, state = self.held
         self.moves, self.errors, self.states = self.moves[:turns], self.errors[:turns], [*self.states[:turns], state]
         self.marks["end"] = {}
-
-    def record(self) -> dict:
-        """Returns the record with checksums instead of states."""
-        sums, self.states = self.states[:-1], self.states[-1:]
-        record = super().record()
-        record["states"] = [*sums, sum_of(record["states"][0])]
-        self.states = [*sums, *self.states]
-        return record
 
 
 @dataclass

@@ -11,7 +11,7 @@ from operator import attrgetter, itemgetter
 from typing import NamedTuple
 
 from ggp_tools.descriptions.loading import NoDescription, sentence_starts
-from ggp_tools.gdl import ARITIES, GAME, SECRET, as_read, must_be_atomic, must_be_literal, reached
+from ggp_tools.gdl import ARITIES, GAME, SECRET, as_read, form, must_be_atomic, must_be_literal, reached
 from ggp_tools.kif import (
     TOKEN, Expression, Refused, Relation, blanked, expressions, grouped, head_of, is_variable, place_of, quoted, relation, spelled, variables,
 )
@@ -233,14 +233,13 @@ def meant(atom: Expression, words: dict[str, int | str | None], names: Sequence[
     return matches[0] if matches else None
 
 
-def form(name: str, count: int | None) -> str:
-    """Returns the form of an atomic sentence of a relation."""
-    return shown(name if count is None else f"({' '.join([name] + ['_'] * count)})", MOST_SHOWN)
+def shown_form(name: str, count: int | None) -> str:
+    return shown(form(name, count), MOST_SHOWN)
 
 
 def listed(name: str, counts: Sequence[int | None]) -> str:
     """Returns the forms of a relation with these numbers of arguments, or only the first few of them."""
-    return " and ".join([f"`{form(name, count)}`" for count in counts[:MOST_LISTED]] + ["others"] * (len(counts) > MOST_LISTED))
+    return " and ".join([f"`{shown_form(name, count)}`" for count in counts[:MOST_LISTED]] + ["others"] * (len(counts) > MOST_LISTED))
 
 
 def is_too_long(move: Expression) -> bool:
@@ -305,7 +304,7 @@ class Search:
         if word:
             words = f"`{key[0]}` is not a GDL keyword, and the game does not use it; is `{word}` meant?"
             return Finding(part, words, ("misspelt", key[0]))
-        words, others = f"the game does not use `{form(*key)}`", self.needed_counts.get(key[0])
+        words, others = f"the game does not use `{shown_form(*key)}`", self.needed_counts.get(key[0])
         return Finding(part, words + (f", only for {listed(key[0], others)}" if others else ""), ("unused", key))
 
     def of_role(self, part: Part) -> Finding | None:
@@ -343,7 +342,7 @@ class Search:
     def of_missing(self, part: Part) -> Finding:
         """Returns the finding for a condition that no head can satisfy."""
         name, count = key = relation(part.atom)
-        counts, words = self.counts.get(name, ()), f"`{form(*key)}` has no rule and no fact"
+        counts, words = self.counts.get(name, ()), f"`{shown_form(*key)}` has no rule and no fact"
         if count in counts:
             return Finding(part, "no rule and no fact gives this", ("never", key))
         if counts:

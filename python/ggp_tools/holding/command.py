@@ -124,3 +124,7 @@ def main() -> int:
     asked = arguments()
     limit_memory()
     return status_of("ggp-hold-against", lambda: perform(asked), 2)
+
+
+if __name__ == "__main__":
+    sys.exit(main())

@@ -67,6 +67,11 @@ class Game:
         """Returns the goals of a role that are numbers from 0 to 100."""
         return sorted({int(goal) for goal in self.goal_terms(position, role) if isinstance(goal, str) and GOAL_NUMBER.fullmatch(goal)})
 
+    def goal(self, position: Position, role: Term) -> int | None:
+        """Returns the goal of a role, or None if it does not have exactly one."""
+        values = self.goals(position, role)
+        return values[0] if len(values) == 1 else None
+
     def goal_terms(self, position: Position, role: Term) -> list[Term]:
         """Returns all goals of a role, including invalid ones."""
         return position.ask(GOAL, (True, False))(position, role)

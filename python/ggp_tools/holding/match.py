@@ -17,6 +17,9 @@ def texts_of(state: State) -> list[str]:
 class Match:
     """A match: its turns so far, and the marks of START and of the end by role number."""
 
+    # How the record shows a state.
+    recorded = staticmethod(texts_of)
+
     def __init__(self, game: Game, name: str, start: int, play: int, players: list[str]) -> None:
         if len(players) != len(game.roles):
             raise ValueError(f"{len(players)} players for {len(game.roles)} roles")
@@ -48,9 +51,7 @@ class Match:
         return next((f"nolegal {number}" for number, role in enumerate(self.game.roles) if not self.legal(role)), None)
 
     def goals(self) -> list[int | None]:
-        """Returns the goal of each role, or None if it does not have exactly one."""
-        values_by_role = [self.game.goals(self.position, role) for role in self.game.roles]
-        return [values[0] if len(values) == 1 else None for values in values_by_role]
+        return [self.game.goal(self.position, role) for role in self.game.roles]
 
     def turn(self, judged: list[tuple[Term, str]]) -> None:
         """Adds a turn: each role's move, and the error that it replaces, if any."""
@@ -77,7 +78,7 @@ class Match:
             "roles": list(map(spelled, self.game.roles)),
             "startClock": self.start,
             "startMarks": [self.marks["start"].get(role) for role in roles],
-            "states": list(map(texts_of, self.states)),
+            "states": list(map(self.recorded, self.states)),
             "strikes": 0,
             "version": 2,
         }

@@ -37,10 +37,8 @@ class Shown:
         return sorted(spelled(move) for move in self.game.moves(self.game.position(self.state), role))
 
     def goals(self) -> dict[str, int | None]:
-        """Returns the goal of each role, or None if it does not have exactly one."""
         position = self.game.position(self.state)
-        values_by_role = {spelled(role): self.game.goals(position, role) for role in self.game.roles}
-        return {role: values[0] if len(values) == 1 else None for role, values in values_by_role.items()}
+        return {spelled(role): self.game.goal(position, role) for role in self.game.roles}
 
     def picture(self, legal: list[str]) -> dict:
         """Returns the state as HTML, and the legal moves with the places that they name on each of its boards. For each role, it also returns whether

@@ -1,6 +1,7 @@
 """The command `ggp-instantiate`. examples/games/general/README.md says how it works."""
 
 import argparse
+import sys
 
 from ggp_tools.descriptions.suspicious import suspicions
 from ggp_tools.instantiating.for_players import text_for_players
@@ -73,3 +74,7 @@ def perform(asked: argparse.Namespace) -> int:
 def main() -> int:
     asked = arguments()
     return status_of(COMMAND, lambda: perform(asked), 1)
+
+
+if __name__ == "__main__":
+    sys.exit(main())

@@ -100,12 +100,6 @@ def lawful_ones(lines: Iterable[Judged]) -> Iterator[tuple[int, Judged]]:
             report(f"{COMMAND}: not written: {judged.line.file}, line {judged.line.number}: {judged.verdict}")
 
 
-def facts_for(given: argparse.Namespace, referee: Referee, logs: MatchLogs) -> Facts:
-    """Returns the object that makes facts, after it has read everything that does not depend on a record."""
-    refereed_by = given.refereed_by or version_beside(given.rules)
-    return Facts(referee.version(), refereed_by, description_sums(given.rules, given.descriptions), logs)
-
-
 def arguments(words: list[str]) -> argparse.Namespace:
     reader = argparse.ArgumentParser(COMMAND, description=__doc__, formatter_class=argparse.RawDescriptionHelpFormatter)
     reader.add_argument("--program", metavar="FILE", help="ggp_manager, if it is not next to this program or on the path")
@@ -160,7 +154,9 @@ def perform(given: argparse.Namespace) -> int:
     referee, pile, counts = Referee(find_program(given.program), given.large), Pile(given.files), collections.Counter()
     logs = MatchLogs(given.log or ())
     report_others(logs.others)
-    facts = facts_for(given, referee, logs) if given.action == "facts" else None
+    if given.action == "facts":
+        refereed_by = given.refereed_by or version_beside(given.rules)
+        facts = Facts(referee.version(), refereed_by, description_sums(given.rules, given.descriptions), logs)
     games, refused = known_games(given.rules, referee)
     for error in refused:
         report(f"{COMMAND}: skipped: {error}")

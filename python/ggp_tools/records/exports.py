@@ -70,10 +70,6 @@ def spaced(text: str) -> str:
     return text.replace("(", "( ").replace(")", " )")
 
 
-def state_text(terms: list[str]) -> str:
-    return " ".join(["(", *map(spaced, terms), ")"])
-
-
 def match_of(judged: Judged, logged: list[Beginning], games_address: str | None) -> dict[str, object]:
     """Returns a lawful record as a match of ggp-base, without keys that have no value."""
     record, line = judged.line.record, judged.line
@@ -85,7 +81,7 @@ def match_of(judged: Judged, logged: list[Beginning], games_address: str | None)
         "gameMetaURL": games_address and f"{games_address.rstrip('/')}/{judged.game.name}/",
         "isCompleted": record["phase"] in COMPLETED,
         "isAborted": record["phase"] in ABORTED,
-        "states": list(map(state_text, record["states"])),
+        "states": [" ".join(["(", *map(spaced, terms), ")"]) for terms in record["states"]],
         "moves": [list(map(spaced, moves)) for moves in record["moves"]],
         "stateTimes": state_times,
         "errors": [list(map(spaced, errors)) for errors in record["errors"]] or None,

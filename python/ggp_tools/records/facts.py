@@ -39,7 +39,7 @@ def version_beside(rules: str) -> str | None:
     return data.decode("ascii").strip() if VERSION_LINE.fullmatch(data) else None
 
 
-def broken_answers(exchanges: "Exchanges", whys: dict[tuple[int, int], str]) -> list[dict[str, object]]:
+def broken_answers(exchanges: "Exchanges", whys: dict[tuple[int, int], str | None]) -> list[dict[str, object]]:
     """Returns the broken answers, each with its reason, which is None if no log has it."""
     return [{"role": role, "message": number, "why": whys.get((role, number)) or None} for role, number in exchanges.broken()]
 
@@ -107,19 +107,17 @@ class Facts:
         self.sums: dict[str, str] = {}
         self.faults: dict[str, str] = {}
 
-    def of_log(self, judged: Judged, exchanges: Exchanges) -> tuple[Beginning, list[list[list | None]]] | None:
-        """Returns the match in the logs that belongs to a record, and its messages, or None."""
-        match_id = judged.line.match_id
+    def of_log(self, match_id: str, exchanges: Exchanges) -> tuple[Beginning, list[list[list | None]] | None]:
+        """Returns the match in the logs that belongs to a record, and its messages, or an empty one without messages."""
         beginnings = self.logs.of(match_id)
         if len(beginnings) > 1:
             self.faults[match_id] = TWO_LOGS
-        if len(beginnings) != 1:
-            return None
-        messages = messages_of(exchanges, beginnings[0])
-        if isinstance(messages, str):
+        if len(beginnings) == 1:
+            messages = messages_of(exchanges, beginnings[0])
+            if not isinstance(messages, str):
+                return beginnings[0], messages
             self.faults.setdefault(match_id, messages)
-            return None
-        return beginnings[0], messages
+        return Beginning(), None
 
     def of(self, judged: Judged) -> dict[str, object]:
         """Returns the facts of a lawful record."""
@@ -127,12 +125,8 @@ class Facts:
         checksum = record_sum(line.data)
         if self.sums.setdefault(line.match_id, checksum) != checksum:
             self.faults[line.match_id] = TWO_RECORDS
-        begin = end = host = messages = None
-        whys: dict[tuple[int, int], str] = {}
-        if taken := self.of_log(judged, exchanges):
-            logged, messages = taken
-            begin, end, host = logged.times()
-            whys = logged.broken
+        logged, messages = self.of_log(line.match_id, exchanges)
+        begin, end, host = logged.times()
         return {
             "id": line.match_id,
             "record": checksum,
@@ -146,7 +140,7 @@ class Facts:
             "end": end,
             "host": host,
             "messages": messages,
-            "broken": broken_answers(exchanges, whys),
+            "broken": broken_answers(exchanges, logged.broken),
         }
 
     def without_log(self, data: bytes) -> bytes:

@@ -5,6 +5,7 @@ import pathlib
 import re
 from array import array
 from collections.abc import Iterable, Iterator
+from dataclasses import dataclass, field
 from typing import BinaryIO
 
 from ggp_tools.match_log import BROKEN, ENDS, KINDS, PLAY, SHORTAGE, START, End, Event, Host, Message, Open, Other, Runs
@@ -38,25 +39,22 @@ def message_sum(player: str, kind: str, message: str) -> int:
     return hash((player, START if kind == START else message))
 
 
+@dataclass
 class Beginning:
     """One run of a match in a log. Each message is stored as five numbers in one array."""
 
-    def __init__(self) -> None:
-        self.host: str | None = None
-        self.began: int | None = None
-        self.ended = 0
-        self.numbers = array("q")
-        self.broken: dict[tuple[int, int], str | None] = {}
-        # When the last answer of each turn arrived.
-        self.turns: dict[int, int] = {}
-        # When the last message to each role was sent, and whether the clock was ever set back.
-        self.sent: dict[int, int] = {}
-        self.is_set_back = False
-        self.is_short, self.has_end = False, False
-
-    def __eq__(self, other: object) -> bool:
-        """Returns whether the other object is a copy of this one."""
-        return isinstance(other, Beginning) and (self.numbers, self.broken, self.times()) == (other.numbers, other.broken, other.times())
+    host: str | None = None
+    began: int | None = None
+    ended: int = 0
+    numbers: array = field(default_factory=lambda: array("q"))
+    broken: dict[tuple[int, int], str | None] = field(default_factory=dict)
+    # When the last answer of each turn arrived.
+    turns: dict[int, int] = field(default_factory=dict, compare=False)
+    # When the last message to each role was sent, and whether the clock was ever set back.
+    sent: dict[int, int] = field(default_factory=dict, compare=False)
+    is_set_back: bool = field(default=False, compare=False)
+    is_short: bool = field(default=False, compare=False)
+    has_end: bool = field(default=False, compare=False)
 
     def take(self, event: Event) -> None:
         if isinstance(event, Host):

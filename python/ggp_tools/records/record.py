@@ -10,6 +10,7 @@ from typing import BinaryIO
 from ggp_tools.kif import KifFault, Refused, expressions, spelled
 from ggp_tools.printable import counted, shown
 from ggp_tools.records.lengths import USUAL_RECORD, states_in, without_states
+from ggp_tools.streams import limited_lines
 
 LONGEST_RECORD = USUAL_RECORD
 TOO_LONG = "it is longer than 16 MiB"
@@ -237,10 +238,4 @@ def record_sum(data: bytes) -> str:
 
 def numbered_lines(lines: BinaryIO) -> Iterator[tuple[int, bytes]]:
     """Yields the lines of a file with their numbers. A line that is too long is cut, to just above the limit."""
-    number, enough = 0, LONGEST_RECORD + 3
-    while data := lines.readline(enough):
-        number += 1
-        rest = data
-        while len(rest) == enough and not rest.endswith(b"\n"):
-            rest = lines.readline(enough)
-        yield number, data.rstrip(b"\r\n")
+    return ((number, data.rstrip(b"\r\n")) for number, (data, _) in enumerate(limited_lines(lines, LONGEST_RECORD + 3), 1))

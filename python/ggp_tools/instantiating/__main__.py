@@ -1,7 +1,0 @@
-"""Runs `ggp-instantiate` as `python -m ggp_tools.instantiating`."""
-
-import sys
-
-from ggp_tools.instantiating.command import main
-
-sys.exit(main())
