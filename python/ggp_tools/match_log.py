@@ -5,6 +5,7 @@ import dataclasses
 import io
 import json
 import re
+from collections import deque
 from collections.abc import Iterable, Iterator
 from dataclasses import dataclass
 from typing import BinaryIO
@@ -196,17 +197,23 @@ class Runs:
         return begins
 
 
-def last_run(log: BinaryIO, match: str) -> list[Event]:
-    """Returns the events of the last run of a match in a log."""
+def runs_of(log: BinaryIO, match: str) -> Iterator[list[Event]]:
+    """Yields the events of each run of a match in a log. There is at least one run, which may have no events."""
     run: list[Event] = []
     runs = Runs()
     for event in events(log):
         if isinstance(event, Other) or event.match != match:
             continue
         if runs.is_next(event):
+            yield run
             run = []
         run.append(event)
-    return run
+    yield run
+
+
+def last_run(log: BinaryIO, match: str) -> list[Event]:
+    """Returns the events of the last run of a match in a log."""
+    return deque(runs_of(log, match), 1).pop()
 
 
 def published(log: bytes, match: str) -> bytes:

@@ -20,19 +20,15 @@ NAMES = ["ann", "bob", "cid", "dan"]
 
 
 def competition(head=""):
-    return read_competition(toml([(name, f"h:{at + 1}") for at, name in enumerate(NAMES)], [("two", "f"), ("three", "f"), ("one", "f")], head=head).encode())
+    return read_competition(toml([(name, f"h:{at + 1}") for at, name in enumerate(NAMES)], [("two", "f"), ("one", "f")], head=head).encode())
 
 
-def result(players, goals, wrong=None, retired=None, game="two", forfeit=True):
+def result(players, goals, wrong=None, retired=None, game="two"):
     """Returns the result of a match in which this many moves of each player were replaced."""
     wrong = wrong or [0] * len(players)
     errors = tuple(Counter({"TO": count} if count else {}) for count in wrong)
     retirements = tuple(Retirement(("TO",), 5) if gone else None for gone in retired or [False] * len(players))
-    return Result(Match("m", game, 1, 1, tuple(players)), tuple(goals), 5, errors, retirements, "finished", None, forfeit)
-
-
-def line(results, player, head="", game=0):
-    return tables_of(competition(head), results)[game].lines[player]
+    return Result(Match("m", game, 1, 1, tuple(players)), tuple(goals), 5, errors, retirements, "finished", None, True)
 
 
 class Tables(unittest.TestCase):

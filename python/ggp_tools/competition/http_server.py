@@ -164,8 +164,8 @@ class Server:
         waits for the threads, and only one call for a page that follows from results."""
         is_long = path != FIRST and path[1:] in self.site.made
         async with self.turns.setdefault(client, asyncio.Lock()), self.long_turn if is_long else contextlib.nullcontext():
-            found = await self.on_site(function, path)
-            return await asyncio.get_running_loop().run_in_executor(self.other_thread, found) if callable(found) else found
+            result = await self.on_site(function, path)
+            return await asyncio.get_running_loop().run_in_executor(self.other_thread, result) if callable(result) else result
 
     async def update(self) -> None:
         """Reads the directory, and wakes the connections whose page has changed."""
@@ -258,8 +258,8 @@ class Server:
     async def send_events(self, request: web.BaseRequest, path: str, known: str) -> web.StreamResponse:
         """Sends the changes since a version, or from now on, as long as the visitor accepts them."""
         with self.visitors.viewing(request.protocol) as has_room:
-            found = await self.for_client(request.protocol.client, self.site.opened, path) if has_room else None
-            if found is None:
+            page = await self.for_client(request.protocol.client, self.site.opened, path) if has_room else None
+            if page is None:
                 return await self.send(request, HTTPStatus.NOT_FOUND if has_room else HTTPStatus.SERVICE_UNAVAILABLE)
             response = web.StreamResponse(headers={**self.headers_of(request, "text/event-stream"), "X-Accel-Buffering": "no"})
             response.force_close()
@@ -268,23 +268,23 @@ class Server:
                 # An answer to HEAD has no body, so it must have no last chunk either.
                 writer.chunked = False
                 return response
-            found.viewers += 1
+            page.viewers += 1
             try:
                 stays = functools.partial(self.visitors.viewers.__contains__, request.protocol)
-                await self.send_changes(response, found, int(known) if VERSION.fullmatch(known) else -1 if known else found.version, stays)
+                await self.send_changes(response, page, int(known) if VERSION.fullmatch(known) else -1 if known else page.version, stays)
             finally:
-                found.viewers, found.touched = found.viewers - 1, time.monotonic()
+                page.viewers, page.touched = page.viewers - 1, time.monotonic()
             return response
 
-    async def send_changes(self, response: web.StreamResponse, found: OpenPage, version: int, stays: Callable[[], bool]) -> None:
+    async def send_changes(self, response: web.StreamResponse, page: OpenPage, version: int, stays: Callable[[], bool]) -> None:
         """Sends the changes of a page since a version, until the page is final or another stream takes the place of this one. Sending fails once
         the visitor is gone."""
         is_last = False
         while not is_last and stays():
             with contextlib.suppress(TimeoutError):
                 async with asyncio.timeout(ALIVE):
-                    while found.version == version and not found.is_final and stays():
+                    while page.version == version and not page.is_final and stays():
                         await self.updated.wait()
-            texts, version, is_last = found.news(version)
+            texts, version, is_last = page.news(version)
             async with asyncio.timeout(PATIENCE):
                 await response.write(b"".join(texts) or b": still there\n\n")

@@ -115,8 +115,8 @@ class LiveBoard:
         """Asks the referee for the moves of the finished rounds. Returns the answers in these rounds."""
         done, before = {}, (self.position, self.trouble)
         # A recorded round shows which roles are retired, and therefore which later rounds are finished.
-        while self.is_known_further() and (found := self.ask(referee)) is not None:
-            done |= found
+        while self.is_known_further() and (recorded := self.ask(referee)) is not None:
+            done |= recorded
         if self.lacks_line():
             self.trouble = NO_LINE
         self.version += (self.position, self.trouble) != before
@@ -146,12 +146,12 @@ class LiveBoard:
         calls, due = replies[:-roles], replies[-roles:]
         self.trouble = "" if set(calls) <= {"opened", "taken"} else NO_LINE
         for turn, recorded in enumerate(record["errors"][len(known) :], len(known) + 1):
-            said = self.answers.get(turn, {})
-            self.reasons |= {(turn, role): message.came() for role, message in said.items() if message.error}
+            answers = self.answers.get(turn, {})
+            self.reasons |= {(turn, role): message.came() for role, message in answers.items() if message.error}
             # If the referee lacks a resource, the record has a broken connection.
-            known = [*known, [SHORTAGE if role in said and said[role].error == SHORTAGE else error for role, error in enumerate(recorded)]]
+            known = [*known, [SHORTAGE if role in answers and answers[role].error == SHORTAGE else error for role, error in enumerate(recorded)]]
         now = round_of(record["phase"], record["moves"])
-        self.answers = {at: found for at, found in self.answers.items() if at >= now}
+        self.answers = {at: answers for at, answers in self.answers.items() if at >= now}
         owing = frozenset(role for role, reply in enumerate(due) if reply.startswith("owe "))
         movers = [*self.position.movers, *(mover_of(state, record["roles"]) for state in record["states"][len(self.position.movers) :])]
         self.position = Position(record["phase"], owing, last_states(record["states"]), record["moves"], known, movers)
@@ -160,19 +160,19 @@ class LiveBoard:
         """Returns the calls up to the end of these rounds. A recorded turn has the moves that were played, and a missing answer for each replaced
         move."""
         match, position = self.match, self.position
-        found = [f"strict {match.id} 0 {match.start} {match.play} {self.strikes} {' '.join(match.players)}".encode()]
+        rows = [f"strict {match.id} 0 {match.start} {match.play} {self.strikes} {' '.join(match.players)}".encode()]
         if position.round():
-            found += [b"submit %b %d 0" % (match.id.encode(), role) for role in range(len(match.players))]
+            rows += [b"submit %b %d 0" % (match.id.encode(), role) for role in range(len(match.players))]
         for turn, (moves, errors) in enumerate(zip(position.moves, position.errors), 1):
             for role, (move, error) in enumerate(zip(moves, errors)):
                 if error != "RT":
-                    found.append(self.call(role, turn, None if error else move, "silent"))
+                    rows.append(self.call(role, turn, None if error else move, "silent"))
         for at, answers in rounds.items():
             for role, message in answers.items():
                 text = "" if message.kind == START else message.answer
-                found.append(self.call(role, at, None if message.error else text, "silent" if message.error == NO_TIME else "broken"))
-        found += [f"next {match.id} {role}".encode() for role in range(len(match.players))]
-        return b"".join(line + b"\n" for line in found)
+                rows.append(self.call(role, at, None if message.error else text, "silent" if message.error == NO_TIME else "broken"))
+        rows += [f"next {match.id} {role}".encode() for role in range(len(match.players))]
+        return b"".join(row + b"\n" for row in rows)
 
     def call(self, role: int, at: int, answer: str | None, missed: str) -> bytes:
         """Returns the row of a script in which a role answers in a round, or misses its answer."""

@@ -26,12 +26,12 @@ DEFAULT_PORTS = {"http": 80, "https": 443}
 def matching(form: str, expected: str) -> Callable[[str], str]:
     """Returns a function that accepts texts of this form."""
 
-    def text(found: str) -> str:
-        if not re.fullmatch(form, found):
-            raise argparse.ArgumentTypeError(f"expected {expected}, found {found!r}")
-        return found
+    def checked(text: str) -> str:
+        if not re.fullmatch(form, text):
+            raise argparse.ArgumentTypeError(f"expected {expected}, found {text!r}")
+        return text
 
-    return text
+    return checked
 
 
 HOST = matching(NAME, "a host name, such as cup.example.org")
@@ -40,10 +40,10 @@ BASE = matching("(/[A-Za-z0-9_~-][A-Za-z0-9._~-]*)*", "a path that begins with /
 
 def origin(text: str) -> str:
     """Returns an origin as browsers write it: in lower case, and without the usual port of its scheme."""
-    found = ORIGIN.fullmatch(text)
-    if not found or not 1 <= int(found[4] or 1) <= MOST_PORT:
+    parts = ORIGIN.fullmatch(text)
+    if not parts or not 1 <= int(parts[4] or 1) <= MOST_PORT:
         raise argparse.ArgumentTypeError(f"expected an origin, such as https://club.example, found {text!r}")
-    scheme, name, port = found[1].lower(), found[2].lower(), int(found[4] or 0)
+    scheme, name, port = parts[1].lower(), parts[2].lower(), int(parts[4] or 0)
     return f"{scheme}://{name}" if port in (0, DEFAULT_PORTS[scheme]) else f"{scheme}://{name}:{port}"
 
 

@@ -137,7 +137,7 @@ def notes(table: Table) -> Iterator[str]:
     """Yields remarks about the standings."""
     yield from table.withdrawn
     yield from map(again_words, table.again)
-    yield from (f"round {found.number}{found.byes_words()}" for found in table.rounds if found.byes)
+    yield from (f"round {planned.number}{planned.byes_words()}" for planned in table.rounds if planned.byes)
     for line in table.standings():
         if 0 < line.absent == line.matches:
             yield f"{line.player} made no move of its own: all of its moves were replaced"
@@ -185,7 +185,7 @@ def json_text(plan: Plan, tables: list[Table]) -> str:
         "forfeit": plan.competition.forfeit,
         "replaced": plan.competition.faults.replaced,
         "order": tables[0].by,
-        "rounds": [{"round": found.number, "pairs": found.pairs, "byes": found.byes} for found in plan.rounds],
+        "rounds": [{"round": planned.number, "pairs": planned.pairs, "byes": planned.byes} for planned in plan.rounds],
         "ratings": method_of(plan.competition),
         "tables": [
             {

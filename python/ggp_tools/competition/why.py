@@ -13,7 +13,7 @@ from ggp_tools.competition.files import Refused, file_bytes, opened_file
 from ggp_tools.competition.plan import Plan
 from ggp_tools.competition.results import Result, counted_result, forfeit_words
 from ggp_tools.competition.schedule import Match
-from ggp_tools.match_log import PLAY, START, Message, Other, Runs, events
+from ggp_tools.match_log import PLAY, START, Message, messages, runs_of
 from ggp_tools.moments import MOMENT, moment_at
 from ggp_tools.printable import counted, message_of
 from ggp_tools.records.show import read_record
@@ -117,14 +117,8 @@ class Explanation:
         """Returns the messages of each run of the match from its log, which may still be growing."""
         open_log = self.folder.room_log(self.match.id)
         file = open_log if not self.record and open_log.is_file() else self.folder.log(self.match.id)
-        runs: list[list[Message]] = [[]]
-        known = Runs()
         with opened_file(file) if file.is_file() else contextlib.nullcontext(io.BytesIO()) as log:
-            for event in events(log):
-                if not isinstance(event, Other) and event.match == self.match.id and known.is_next(event):
-                    runs.append([])
-                if isinstance(event, Message) and event.role < len(self.roles):
-                    runs[-1].append(event)
+            runs = [[message for message in messages(run) if message.role < len(self.roles)] for run in runs_of(log, self.match.id)]
         runs = runs if runs[0] else runs[1:]
         # Only the last run is in the record.
         return [[self.entry_of(message, run is runs[-1]) for message in run] for run in runs]
