@@ -11,7 +11,7 @@ from ggp_tools.referee import Referee
 from ggp_tools.competition.schedule import Match
 from live_support import BEGAN
 from players import TestPlayer
-from support import GAMES, program, run, toml
+from support import GAMES, program, run, script, toml
 
 FIRST = "a-match"
 RULES = GAMES / "tictactoe.kif"
@@ -62,6 +62,4 @@ if __name__ == "__main__":
     made = pathlib.Path(sys.argv[1])
     made.mkdir()
     make_up(made, int(sys.argv[2]))
-    quick = made / "quick"
-    quick.write_text(QUICK.format(python=sys.executable, folder=made.absolute(), program=program()))
-    quick.chmod(0o755)
+    script(made / "quick", QUICK.format(python=sys.executable, folder=made.absolute(), program=program()))

@@ -108,11 +108,16 @@ def run_into_full(folder, *words):
     return status, said
 
 
-def program_but(path, asked, done):
-    """Writes a program that behaves like the referee, except that it runs `done` if `asked` is true. Both are shell code."""
-    path.write_text(f'#!/bin/bash\nif [[ {asked} ]]; then {done}; fi\nexec {program()} "$@"\n')
+def script(path, text):
+    """Writes a program. Returns its path."""
+    path.write_text(text)
     path.chmod(0o755)
     return path
+
+
+def program_but(path, asked, done):
+    """Writes a program that behaves like the referee, except that it runs `done` if `asked` is true. Both are shell code."""
+    return script(path, f'#!/bin/bash\nif [[ {asked} ]]; then {done}; fi\nexec {program()} "$@"\n')
 
 
 def command_of(process):

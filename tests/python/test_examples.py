@@ -2,16 +2,14 @@
 
 import json
 import os
-import pathlib
 import resource
 import socket
 import subprocess
 import sys
-import tempfile
 import unittest
 
 from ggp_tools.records import countdown
-from support import TOP, outside
+from support import TOP, InFolder, outside, script
 
 INSTANTIATE, SHOW_RECORD = (TOP / f"python/ggp-{name}" for name in ("instantiate", "show-record"))
 PLAY_A_MATCH = TOP / "examples/play-a-match"
@@ -27,7 +25,14 @@ def run(*words, **more):
     return done.returncode, done.stdout, done.stderr
 
 
-class Examples(unittest.TestCase):
+def play_a_match(*words):
+    """Runs `play-a-match`, which does not wait for players. Returns the exit status, the output and the errors."""
+    environment = {**os.environ, "PATIENCE": "0"}
+    done = subprocess.run([PLAY_A_MATCH, *words], stdin=subprocess.DEVNULL, capture_output=True, text=True, env=environment)
+    return done.returncode, done.stdout, done.stderr
+
+
+class Examples(InFolder):
     def test_seconds(self):
         status, out, said = run(INSTANTIATE, "--seconds=-1", GROUND)
         self.assertEqual((status, out), (2, ""))
@@ -75,78 +80,64 @@ class Examples(unittest.TestCase):
         self.assertEqual((status, out, said.splitlines()[-1].partition(":")[0]), (1, "", "ggp-instantiate"))
         self.assertRegex(run(INSTANTIATE, preexec_fn=lambda: os.close(0))[2], r"ggp-instantiate: standard input: it is closed")
 
-    def test_pages_are_as_before(self):
-        status, page, said = run(SHOW_RECORD, RECORD)
-        self.assertEqual((status, said, page.startswith("<!DOCTYPE html>"), page.endswith("</html>\n")), (0, "", True, True))
-
     def test_a_record_with_its_account(self):
         record, page = RECORD.read_bytes(), run(SHOW_RECORD, RECORD)[1]
+        self.assertTrue(page.startswith("<!DOCTYPE html>") and page.endswith("</html>\n"))
         account = b"0\topen m1 0 1 1 ann bob\topened\r\n1\tnext m1 0\tover\n"
         refused = "Pass one record, or make a page of each with `ggp-records pages`"
-        with tempfile.TemporaryDirectory() as room:
-            file = pathlib.Path(room) / "played"
-            pretty = json.dumps(json.loads(record), indent=1).encode()
-            for text in (record + account, record + account.rstrip(b"\n"), record, record.rstrip(b"\n"), pretty):
-                file.write_bytes(text)
-                self.assertEqual(run(SHOW_RECORD, file), (0, page, ""), text)
-            for text, line in ((record + account + record + account, "4 is not a line of its call log"), (record + record, "2 is another record")):
-                file.write_bytes(text)
-                self.assertEqual(run(SHOW_RECORD, file), (1, "", f"ggp-show-record: no record: line {line}. {refused}\n"))
+        file = self.folder / "played"
+        pretty = json.dumps(json.loads(record), indent=1).encode()
+        for text in (record + account, record + account.rstrip(b"\n"), record, record.rstrip(b"\n"), pretty):
+            file.write_bytes(text)
+            self.assertEqual(run(SHOW_RECORD, file), (0, page, ""), text)
+        for text, line in ((record + account + record + account, "4 is not a line of its call log"), (record + record, "2 is another record")):
+            file.write_bytes(text)
+            self.assertEqual(run(SHOW_RECORD, file), (1, "", f"ggp-show-record: no record: line {line}. {refused}\n"))
 
     def test_the_longest_record(self):
         record, most = RECORD.read_bytes().rstrip(b"\n"), 16 << 20
-        with tempfile.TemporaryDirectory() as room:
-            file = pathlib.Path(room) / "record"
-            for more, end, is_read in ((0, b"\n", True), (0, b"", True), (1, b"", False), (1, b"\n", False), (2, b"\n", False), (1_000, b"", False)):
-                file.write_bytes(record[:-1] + b" " * (most + more - len(record)) + b"}" + end)
-                status, page, said = run(SHOW_RECORD, file)
-                wanted = (0, "") if is_read else (1, "ggp-show-record: no record: it is longer than 16 MiB\n")
-                self.assertEqual((status, said, bool(page)), (*wanted, is_read), (more, end))
+        file = self.folder / "record"
+        for more, end, is_read in ((0, b"\n", True), (0, b"", True), (1, b"", False), (1, b"\n", False), (2, b"\n", False), (1_000, b"", False)):
+            file.write_bytes(record[:-1] + b" " * (most + more - len(record)) + b"}" + end)
+            status, page, said = run(SHOW_RECORD, file)
+            wanted = (0, "") if is_read else (1, "ggp-show-record: no record: it is longer than 16 MiB\n")
+            self.assertEqual((status, said, bool(page)), (*wanted, is_read), (more, end))
 
     def test_many_boards_in_many_states(self):
         record = json.loads(RECORD.read_text())
         turns, terms = 9_999, [f"(r{board} {at} {at} v)" for board in range(4) for at in (1, 3)]
         for boards, is_drawn in ((3, True), (4, False)):
             more = {"errors": [["", ""]] * turns, "moves": [["a", "b"]] * turns, "states": [terms[: 2 * boards], *[[]] * turns]}
-            with tempfile.TemporaryDirectory() as room:
-                file = pathlib.Path(room) / "record"
-                file.write_text(json.dumps({**record, **more}))
-                status, page, said = run(SHOW_RECORD, file)
+            file = self.folder / "record"
+            file.write_text(json.dumps({**record, **more}))
+            status, page, said = run(SHOW_RECORD, file)
             self.assertEqual((status, said, page.count('<div class="board"')), (0, "", boards * (turns + 1) * is_drawn))
 
     def test_out_of_memory(self):
         most = 100 << 20
         text = json.dumps({**json.loads(RECORD.read_text()), "states": [["a"] * (3 << 20)], "moves": [], "errors": []})
-        with tempfile.TemporaryDirectory() as room:
-            file = pathlib.Path(room) / "record"
-            file.write_text(text)
-            done = run(SHOW_RECORD, file, preexec_fn=lambda: resource.setrlimit(resource.RLIMIT_AS, (most, most)))
+        file = self.folder / "record"
+        file.write_text(text)
+        done = run(SHOW_RECORD, file, preexec_fn=lambda: resource.setrlimit(resource.RLIMIT_AS, (most, most)))
         self.assertEqual(done, (2, "", "ggp-show-record: out of memory\n"))
 
     def test_a_match_of_no_game(self):
-        with tempfile.TemporaryDirectory() as room:
-            file = pathlib.Path(room) / "game.kif"
-            faults = [(None, "can't be read: No such file or directory"), *((text, "is not a ground description") for text in (b"", b"\xff", b"(role a))", b"()", b"(role)", b"(init x)"))]
-            for text, words in faults:
-                if text is not None:
-                    file.write_bytes(text)
-                done = subprocess.run([PLAY_A_MATCH, "none", file], stdin=subprocess.DEVNULL, capture_output=True, text=True)
-                self.assertEqual((done.returncode, done.stdout, done.stderr), (1, "", f"play-a-match: {file} {words}\n"))
-        done = subprocess.run([PLAY_A_MATCH, "none"], stdin=subprocess.DEVNULL, capture_output=True, text=True)
-        self.assertEqual((done.returncode, done.stdout, done.stderr), (2, "", "usage: play-a-match PROGRAM RULES-FILE [OPTION ..]\n"))
+        file = self.folder / "game.kif"
+        faults = [(None, "can't be read: No such file or directory"), *((text, "is not a ground description") for text in (b"", b"\xff", b"(role a))", b"()", b"(role)", b"(init x)"))]
+        for text, words in faults:
+            if text is not None:
+                file.write_bytes(text)
+            self.assertEqual(play_a_match("none", file), (1, "", f"play-a-match: {file} {words}\n"))
+        self.assertEqual(play_a_match("none"), (2, "", "usage: play-a-match PROGRAM RULES-FILE [OPTION ..]\n"))
 
     def test_players_that_were_not_there_are_named_at_the_end(self):
-        with tempfile.TemporaryDirectory() as room:
-            referee = pathlib.Path(room, "referee")
-            for marks, named in (('"",""', ""), ('"","CE"', "bob"), ('"TO",null', "ann bob")):
-                record = f'{{"startClock":10,"startMarks":[{marks}],"states":[["x"]]}}'
-                referee.write_text(f"#!/bin/sh\ncase $1 in info) exit 1 ;; run) echo '{record}'; exit 3 ;; esac\n")
-                referee.chmod(0o755)
-                environment = {**os.environ, "PATIENCE": "0"}
-                done = subprocess.run([PLAY_A_MATCH, referee, GROUND], stdin=subprocess.DEVNULL, capture_output=True, text=True, env=environment)
-                said = [line for line in done.stderr.splitlines() if line.startswith("play-a-match: ")]
-                wanted = [f"play-a-match: no answer to START from {named}: the first legal move is played for players that do not answer"] if named else []
-                self.assertEqual((done.returncode, done.stdout, said), (3, f"{record}\n", wanted), marks)
+        for marks, named in (('"",""', ""), ('"","CE"', "bob"), ('"TO",null', "ann bob")):
+            record = f'{{"startClock":10,"startMarks":[{marks}],"states":[["x"]]}}'
+            referee = script(self.folder / "referee", f"#!/bin/sh\ncase $1 in info) exit 1 ;; run) echo '{record}'; exit 3 ;; esac\n")
+            status, out, errors = play_a_match(referee, GROUND)
+            said = [line for line in errors.splitlines() if line.startswith("play-a-match: ")]
+            wanted = [f"play-a-match: no answer to START from {named}: the first legal move is played for players that do not answer"] if named else []
+            self.assertEqual((status, out, said), (3, f"{record}\n", wanted), marks)
 
     def test_words_of_players(self):
         for player in PLAYERS:
@@ -165,10 +156,9 @@ class Examples(unittest.TestCase):
                 self.assertEqual(run(player, port, "1"), (1, "", f"port {port}: Address already in use\n"))
 
     def test_a_folder_in_the_place_of_the_text_for_players(self):
-        with tempfile.TemporaryDirectory() as room:
-            status, out, said = run(INSTANTIATE, "--player-rules", pathlib.Path(room), NIM)
-            self.assertEqual((status, out), (1, ""))
-            self.assertEqual(said.splitlines()[-1], f"ggp-instantiate: {room}: Is a directory")
+        status, out, said = run(INSTANTIATE, "--player-rules", self.folder, NIM)
+        self.assertEqual((status, out), (1, ""))
+        self.assertEqual(said.splitlines()[-1], f"ggp-instantiate: {self.folder}: Is a directory")
 
 
 class BuiltIn(unittest.TestCase):

@@ -17,7 +17,7 @@ from ggp_tools.records.countdown import countdown
 from ggp_tools.records.explain import explain_lines, explanation, judged, read, short
 from ggp_tools.records.record import json_lines
 from ggp_tools.streams import Ended
-from support import TOP, outside, program, raised, verdict_rows
+from support import TOP, outside, program, raised, script, verdict_rows
 from test_referee import WithStandIn
 
 EXPLAIN = TOP / "python/ggp-explain-record"
@@ -351,9 +351,7 @@ class Whole(unittest.TestCase):
         whole = json.dumps(record)
         text = "\n".join([*(line for line, _, _ in faulty), whole, "0\tnext m1 0\tover", f"7\t{whole}", "", whole[:40], "12"])
         with tempfile.TemporaryDirectory() as room:
-            counting = pathlib.Path(room, "counting")
-            counting.write_text(f'#!/bin/sh\necho >> {room}/runs\nexec {program()} "$@"\n')
-            counting.chmod(0o755)
+            counting = script(pathlib.Path(room, "counting"), f'#!/bin/sh\necho >> {room}/runs\nexec {program()} "$@"\n')
             status, out, said = self.explained(text.encode(), "--lines", "--countdown=3", referee=counting)
             self.assertEqual(pathlib.Path(room, "runs").read_text(), "\n")
         wanted = []

@@ -11,7 +11,7 @@ from ggp_tools.instantiating import gringo
 from ggp_tools.instantiating.gringo import Grounder, LogicProgram, TooMany, TooSlow, limit_process, term_list, term_text
 from ggp_tools.gdl import Relations, all_rules
 from ggp_tools.kif import Refused, expressions
-from support import InFolder, raised
+from support import InFolder, raised, script
 
 
 def program_of(text):
@@ -106,11 +106,9 @@ class Read(unittest.TestCase):
 
 
 class Runs(InFolder):
-    def instances(self, script):
+    def instances(self, text):
         """Returns the instances of a grounder that is this shell script."""
-        file = self.folder / "gringo"
-        file.write_text(f"#!/bin/sh\n{script}\n")
-        file.chmod(0o755)
+        script(self.folder / "gringo", f"#!/bin/sh\n{text}\n")
         with mock.patch.dict(os.environ, {"PATH": f"{self.folder}:{os.environ['PATH']}"}):
             return Grounder(program_of("(role r) (d a)")).instances()
 
@@ -122,11 +120,11 @@ class Runs(InFolder):
         self.assertEqual(self.instances('exec < /dev/null; echo "i0."'), [(0, [])])
 
     def test_one_that_fails(self):
-        for script, words in (
+        for text, words in (
             ("cat > /dev/null; echo 'a  b' >&2; echo c >&2; exit 65", "gringo refuses it: a b c"), ("cat > /dev/null; echo std::bad_alloc >&2; exit 33", "gringo took 2 GiB"),
             ("kill -9 $$", "gringo took 2 GiB"), (f"cat > /dev/null; echo {'x' * 400} >&2; exit 1", f"gringo refuses it: {'x' * 300}"), ("cat > /dev/null; echo bad_alloc >&2", "gringo took 2 GiB"),
         ):
-            self.assertEqual(str(raised(Refused, self.instances, script)), words)
+            self.assertEqual(str(raised(Refused, self.instances, text)), words)
 
     def test_one_that_is_not_there(self):
         with mock.patch.dict(os.environ, {"PATH": str(self.folder)}):

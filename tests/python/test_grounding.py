@@ -8,6 +8,7 @@ from unittest import mock
 from ggp_tools.instantiating import rounds
 from ggp_tools.instantiating.grounding import ground, in_order, needed, possible, sentence_of, shortened
 from ggp_tools.gdl import Literal, Relations, Rule, all_rules, reached
+from ggp_tools.holding.game import Game
 from ggp_tools.holding.reading import rules_of as interpreted
 from ggp_tools.instantiating.splitting import FEW_VARIABLES, MOST_LITERALS, split
 from ggp_tools.instantiating.for_players import text_for_players
@@ -87,12 +88,17 @@ class Dependence(unittest.TestCase):
         asked = {"true": "(true a)", "does": "(does r m)"}
         wrong = {("legal", "does"), ("goal", "does"), ("terminal", "does"), ("init", "does"), ("init", "true"), ("role", "does"), ("role", "true")}
         for (name, head), (other, body) in itertools.product(heads.items(), asked.items()):
-            for text, by, sentence in ((f"(<= {head} {body})", "", 0), (f"(<= x {body}) (<= {head} (not y)) (<= y x)", ", by y, x", 0)):
-                if (name, other) in wrong:
-                    why = raised(Refused, Relations(rules(text)).refuse_dependence)
-                    self.assertEqual((str(why), why.sentence), (f"{name} depends on {other}{by}", sentence))
-                else:
-                    Relations(rules(text)).refuse_dependence()
+            for text, by, sentence in (
+                (f"(<= {head} {body})", "", 0), (f"(<= x {body}) (<= {head} (not y)) (<= y x)", ", by y, x", 0),
+                (f"(<= {head} y) (<= x w) (<= x {body}) (<= y z (not x) z) (<= z y)", ", by y, x", 2),
+            ):
+                # The grounder and the interpreter refuse the same.
+                for ask in (lambda: Relations(rules(text)).refuse_dependence(), lambda: Game(text)):
+                    if (name, other) in wrong:
+                        why = raised(Refused, ask)
+                        self.assertEqual((str(why), why.sentence), (f"{name} depends on {other}{by}", sentence))
+                    else:
+                        ask()
 
 
 class Circles(unittest.TestCase):

@@ -2,10 +2,8 @@
 
 import gzip
 import json
-import pathlib
 import resource
 import signal
-import tempfile
 import types
 import unittest
 from unittest import mock
@@ -14,7 +12,7 @@ from ggp_tools.holding import command
 from ggp_tools.holding.command import DIFFERENT, NOT_FOLLOWED, SAME, Holding, Late, hold, limit_memory, records_in
 from ggp_tools.kif import expressions
 from ground_matches import played
-from support import raised
+from support import InFolder, raised
 
 ONE_TURN = "(role ann) (init s) (legal ann go) (<= terminal (true t)) (goal ann 50) (<= (next t) (does ann go))"
 RECORD = json.dumps(played(expressions(ONE_TURN), 1))
@@ -100,7 +98,7 @@ class Seconds(unittest.TestCase):
             self.assertEqual(list(hold(types.SimpleNamespace(held=lambda line: (SAME, line)), ["x"], 1)), [late])
 
 
-class Streams(unittest.TestCase):
+class Streams(InFolder):
     def test_memory(self):
         endless, most = resource.RLIM_INFINITY, 2 << 30
         for limits, wanted in (((endless, endless), most), ((most + 1, endless), most), ((5, endless), 5), ((endless, 7), 7), ((9, 7), 7), ((5, 7), 5)):
@@ -109,8 +107,7 @@ class Streams(unittest.TestCase):
             self.assertEqual(limited.call_args.args, (resource.RLIMIT_AS, (wanted, limits[1])), limits)
 
     def test_lines_that_are_not_empty(self):
-        with tempfile.TemporaryDirectory() as room:
-            files = [pathlib.Path(room, name) for name in "abc"]
-            for file, data in zip(files, (b"a\n\n \n b\n", b"", gzip.compress(b"c"))):
-                file.write_bytes(data)
-            self.assertEqual(list(records_in(map(str, files))), [b"a\n", b" b\n", b"c"])
+        files = [self.folder / name for name in "abc"]
+        for file, data in zip(files, (b"a\n\n \n b\n", b"", gzip.compress(b"c"))):
+            file.write_bytes(data)
+        self.assertEqual(list(records_in(map(str, files))), [b"a\n", b" b\n", b"c"])

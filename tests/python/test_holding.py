@@ -273,18 +273,6 @@ class Described(unittest.TestCase):
         ):
             self.assertEqual(told(text, raised(Refused, Game, text)), words)
 
-    def test_what_is_asked_between_turns_depends_on_no_moves(self):
-        heads = {"legal": "(legal a m)", "goal": "(goal a 1)", "terminal": "terminal", "init": "(init a)", "role": "(role a)", "next": "(next a)"}
-        wrong = {("legal", "does"), ("goal", "does"), ("terminal", "does"), ("init", "does"), ("init", "true"), ("role", "does"), ("role", "true")}
-        for name, head in heads.items():
-            for other, body in (("true", "(true a)"), ("does", "(does a m)")):
-                for text in (f"(<= {head} {body})", f"(<= {head} y) (<= x w) (<= x {body}) (<= y z (not x) z) (<= z y)"):
-                    if (name, other) not in wrong:
-                        Game(f"(role a) {text}".replace("(not x)", "x"))
-                        continue
-                    why = raised(Refused, Game, f"(role a) {text}")
-                    self.assertEqual(str(why).partition(", by ")[0], f"{name} depends on {other}")
-
     def test_goals_are_numbers_up_to_100(self):
         numbers = ["0", "7", "99", "100", "101", "007", "x", "(f 1)", "-1", "1000"]
         game = Game("(role a) (role b) (goal b 3) " + " ".join(f"(goal a {number})" for number in numbers))

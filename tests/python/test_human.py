@@ -79,17 +79,19 @@ class Seats(unittest.TestCase):
         thread.start()
         return thread
 
-    def await_phase(self, phase):
+    def ask_for_move(self):
+        """Lets the seat answer a PLAY, and waits until the person is asked."""
+        thread = self.ask("(PLAY M NIL)")
         with self.seat.changed:
-            self.assertTrue(self.seat.changed.wait_for(lambda: self.seat.view["phase"] == phase, SECONDS), phase)
+            self.assertTrue(self.seat.changed.wait_for(lambda: self.seat.view["phase"] == "moving", SECONDS))
+        return thread
 
     def begin(self, role="xplayer", rules=RULES):
         self.assertEqual(self.seat.answer(f"(START M {role} ({rules}) 60 60)"), "ready")
 
     def test_the_person_moves(self):
         self.begin()
-        asked = self.ask("(PLAY M NIL)")
-        self.await_phase("moving")
+        asked = self.ask_for_move()
         self.assertEqual(self.seat.move("(mark 4 4)", self.seat.asked), "that move is not legal")
         self.assertIsNone(self.seat.move("(mark 2 2)", self.seat.asked))
         asked.join(SECONDS)
@@ -102,8 +104,7 @@ class Seats(unittest.TestCase):
 
     def test_what_was_replaced_is_said(self):
         self.begin()
-        asked = self.ask("(PLAY M NIL)")
-        self.await_phase("moving")
+        asked = self.ask_for_move()
         self.seat.move("(mark 2 2)", self.seat.asked)
         asked.join(SECONDS)
         self.seat.answer("(PLAY M ((mark 1 1) noop))")
@@ -134,24 +135,21 @@ class Seats(unittest.TestCase):
 
     def test_a_click_on_the_turn_before_makes_no_move(self):
         self.begin()
-        asked = self.ask("(PLAY M NIL)")
-        self.await_phase("moving")
+        asked = self.ask_for_move()
         self.assertEqual(self.seat.move("(mark 2 2)", self.seat.asked - 1), "that move was chosen for an earlier turn")
         self.assertIsNone(self.seat.move("(mark 2 2)", self.seat.asked))
         asked.join(SECONDS)
 
     def test_what_ends_a_match_ends_the_wait_for_a_move(self):
         self.begin()
-        asked = self.ask("(PLAY M NIL)")
-        self.await_phase("moving")
+        asked = self.ask_for_move()
         self.assertEqual(self.seat.answer("(ABORT M)"), "aborted")
         asked.join(SECONDS)
         self.assertEqual((self.answers, self.seat.view["phase"]), ([None], "aborted"))
 
     def test_the_person_leaves_a_match(self):
         self.begin()
-        asked = self.ask("(PLAY M NIL)")
-        self.await_phase("moving")
+        asked = self.ask_for_move()
         self.assertEqual(self.seat.leave("N"), "that match is over")
         self.assertIsNone(self.seat.leave("M"))
         asked.join(SECONDS)
@@ -203,8 +201,7 @@ class Seats(unittest.TestCase):
 
     def test_another_match_begins_only_once_the_referee_is_lost(self):
         self.begin()
-        asked = self.ask("(PLAY M NIL)")
-        self.await_phase("moving")
+        asked = self.ask_for_move()
         other = f"(START N oplayer ({RULES}) 60 60)"
         self.assertEqual(self.seat.answer(other), "busy")
         self.assertIsNone(self.seat.move("(mark 2 2)", self.seat.asked))
@@ -246,14 +243,12 @@ class Seats(unittest.TestCase):
     def test_rules_may_have_variables(self):
         self.begin("a", OPEN)
         self.seat.legal = []
-        asked = self.ask("(PLAY M NIL)")
-        self.await_phase("moving")
+        asked = self.ask_for_move()
         self.assertEqual(self.seat.legal, ["(say 1)", "(say 2)"])
         self.seat.move("(say 1)", self.seat.asked)
         asked.join(SECONDS)
         self.assertEqual(self.seat.answer("(STOP M ((say 1) (say 2)))"), "done")
         self.assertIn("a 100, b 50", self.seat.view["note"])
-
 
     def test_nothing_is_answered_for_a_person_that_is_not_there(self):
         self.seat.waits_for_page = True
@@ -267,8 +262,7 @@ class Seats(unittest.TestCase):
         self.assertIsNone(self.seat.answer("(PLAY M NIL)"))
         # The move is made once the page is open again.
         self.seat.play_clock = 60
-        asked = self.ask("(PLAY M NIL)")
-        self.await_phase("moving")
+        asked = self.ask_for_move()
         self.seat.page_opens(1)
         asked.join(SECONDS)
         self.assertEqual(self.answers, ["noop"])

@@ -2,10 +2,8 @@
 
 import io
 import json
-import pathlib
 import subprocess
 import sys
-import tempfile
 import unittest
 from unittest.mock import patch
 
@@ -15,7 +13,7 @@ from ggp_tools.match_log import (
 )
 from hypothesis import given
 from hypothesis import strategies as st
-from support import TOP
+from support import TOP, InFolder
 
 MESSAGE = Message("m1", 0, "ann", 3, "PLAY", 1, 1_764_447_301_123, 12, "(PLAY m1 (a b))", "a", None, None)
 MISSED = Message("m1", 1, "bob", 1, "START", None, None, 5_000, "(START m1 blue ... 5 5)", None, "TO", "no answer in time: nothing received")
@@ -122,19 +120,18 @@ class Texts(unittest.TestCase):
             self.assertTrue(text.isascii() and text.isprintable() and len(text) < 500, text)
 
 
-class Printing(unittest.TestCase):
+class Printing(InFolder):
     def printed(self, *files: object) -> tuple[int, str, str]:
         done = subprocess.run([sys.executable, TOP / "python/ggp-records", "log", *files], capture_output=True, text=True)
         return done.returncode, done.stdout, done.stderr
 
     def test_logs_are_printed_as_text(self):
-        with tempfile.TemporaryDirectory() as folder:
-            first, second = pathlib.Path(folder, "1"), pathlib.Path(folder, "2")
-            first.write_bytes(line_of(OTHERS[0]) + LINE)
-            second.write_bytes(line_of(MISSED) + b"\x1b[2J\n" + LINE[:-1])
-            texts = [text_of(event) + "\n" for event in (OTHERS[0], MESSAGE, MISSED)]
-            self.assertEqual(self.printed(first), (0, "".join(texts[:2]), ""))
-            self.assertEqual(self.printed(folder), (1, "".join(texts), "ggp-records: 1 line is not of a log\n"))
-            self.assertEqual(self.printed(first, second)[1], "".join(texts))
-            status, printed, said = self.printed(pathlib.Path(folder, "3"))
-            self.assertEqual((status, printed), (3, ""), said)
+        first, second = self.folder / "1", self.folder / "2"
+        first.write_bytes(line_of(OTHERS[0]) + LINE)
+        second.write_bytes(line_of(MISSED) + b"\x1b[2J\n" + LINE[:-1])
+        texts = [text_of(event) + "\n" for event in (OTHERS[0], MESSAGE, MISSED)]
+        self.assertEqual(self.printed(first), (0, "".join(texts[:2]), ""))
+        self.assertEqual(self.printed(self.folder), (1, "".join(texts), "ggp-records: 1 line is not of a log\n"))
+        self.assertEqual(self.printed(first, second)[1], "".join(texts))
+        status, printed, said = self.printed(self.folder / "3")
+        self.assertEqual((status, printed), (3, ""), said)

@@ -11,7 +11,7 @@ from ggp_tools.competition.schedule import Match
 from ggp_tools.referee import (
     BadRules, NoReferee, Referee, Unchecked, find_program, has_events, last_line, read_objects, records_replayed, rules_file,
 )
-from support import InFolder, raised, verdict_rows
+from support import InFolder, raised, script, verdict_rows
 
 # The fake referee stores the arguments and the input of each run, and gives the answer that the test has set.
 STAND_IN = """#!/bin/sh
@@ -29,10 +29,7 @@ exit $(cat status.$n)
 class WithStandIn(InFolder):
     def setUp(self) -> None:
         super().setUp()
-        path = self.folder / "program"
-        path.write_text(STAND_IN)
-        path.chmod(0o755)
-        self.referee, self.laid_down = Referee(str(path)), 0
+        self.referee = Referee(str(script(self.folder / "program", STAND_IN)))
         self.begin_anew()
 
     def begin_anew(self) -> None:

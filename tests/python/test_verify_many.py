@@ -15,7 +15,7 @@ from unittest import mock
 
 from ggp_tools.records import verify_many
 from ggp_tools.records.verify_many import Fault, arguments, check, check_all, pieces
-from support import TOP, InFolder, raised, verdict_rows
+from support import TOP, InFolder, raised, script, verdict_rows
 
 WRITE_WORDS = 'echo "$@" >> "$(dirname "$0")/words"\n'
 CHECK = """exec awk '
@@ -90,10 +90,7 @@ class WithProgram(InFolder):
         self.program = self.stand_in("program", f"#!/bin/sh\n{WRITE_WORDS}{CHECK}")
 
     def stand_in(self, name, text):
-        path = self.folder / name
-        path.write_text(text)
-        path.chmod(0o755)
-        return str(path)
+        return str(script(self.folder / name, text))
 
 
 class Checks(WithProgram):
