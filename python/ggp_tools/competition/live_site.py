@@ -152,8 +152,9 @@ class SiteOfShown(Site):
             self.reader.must_be_shown(match.id)
             return data
 
+        files = self.reader.identities.get(match.id)
         try:
-            return self.kept.get(path, self.reader.identities.get(match.id), made)
+            return self.kept.get(path, files, made) if files else None
         except (OSError, NoRecord):
             return None
 
