@@ -12,7 +12,7 @@ from unittest.mock import patch
 from ggp_tools.competition import live, live_board
 from ggp_tools.competition.files import held
 from ggp_tools.competition.live import Reader
-from ggp_tools.competition.live_board import NO_LINE, NO_VERDICT, TOO_LONG, LiveBoard, text_in_line
+from ggp_tools.competition.live_board import NO_LINE, NO_VERDICT, TOO_LONG, LiveBoard
 from ggp_tools.competition.live_pages import now_part, open_row, replaced_part, state_html, turn_row
 from ggp_tools.competition.open_match import leave_players
 from ggp_tools.competition.schedule import Match
@@ -362,19 +362,6 @@ class States(InRoom):
     def heap(self, board):
         return next(term for term in board.position.states[-1] if term.startswith("(heap"))
 
-    def test_what_is_replaced(self):
-        # An answer that is not a legal move (in upper or lower case), and a missing answer.
-        board = self.board(self.play(2, "NIL", ["(TAKE  2)", "<script>"]) + self.play(3, "((take 2) noop)", [SILENT, "(take 2)"]))
-        self.assertEqual([turn.errors for turn in board.turns()], [("", "IL <script>"), (SILENT, "IL (take 2)")])
-        self.assertEqual((board.turns()[-1].moves, self.heap(board), board.trouble), (("noop", "(take 1)"), "(heap 0)", ""))
-        self.assertIn("&lt;script&gt;", turn_row(board.turns()[0])[1])
-
-    def test_answers_of_several_lines_with_comments(self):
-        self.assertEqual(text_in_line("; mine\n(take ;x\n1)\r\n"), b" (take  1)\r ")
-        self.assertEqual(text_in_line("a" * 4_097), b")")
-        board = self.board(self.play(2, "NIL", ["; mine\n(take\n2) ; (", "noop\n"]) + self.play(3, "((take 2) noop)", ["noop;\n" * 600, "; (take 1)"]))
-        self.assertEqual([turn.errors for turn in board.turns()], [("", ""), ("IL ?", "IL ?")])
-
     def test_a_log_that_lacks_a_line(self):
         log = self.play(2, "NIL", ["(take 1)", "noop"]) + self.play(3, "((take 1) noop)", ["noop"], [0]) + self.play(4, "(noop (take 1))", ["noop"], [0])
         board = self.board(log)
@@ -412,21 +399,10 @@ class States(InRoom):
         self.assertEqual(board.position.errors, [[f"IL {'x' * 4_000}", "IL ?"], [f"IL {'y' * 4_000}", ""], ["IL z", "TO"]])
         self.assertEqual((self.heap(board), board.position.phase), ("(heap 0)", "stopping"))
 
-    def test_a_match_that_begins_again(self):
-        board = self.board(self.play(2, "NIL", ["(take 1)", "noop"]))
-        board.begin()
-        self.follow(board, started(self.match) + self.play(2, "NIL", ["(take 2)", "noop"]))
-        self.assertEqual(self.heap(board), "(heap 1)")
-
     def test_a_label_looks_the_same_in_each_state(self):
         # At first there is only one kind of label, which might mean anything.
         board = self.board(rules=(GAMES / "tictactoe.kif").read_bytes())
         self.assertEqual(re.findall("<i class=\"ground\"[^>]*>(.*?)</i>", drawn(board)), ["\u00b7"] * 9)
-
-    def test_the_board(self):
-        text = drawn(self.board(self.play(2, "NIL", ["(take 2)", "noop"])))
-        self.assertEqual(re.findall(r'title="([^"]*)"', html.unescape(text)), ["1 1: white man", "1 2: black king"])
-        self.assertEqual([term.text for term in parsed(text).select("li:not(.gone)")], ["(heap 1)"])
 
     def test_a_state_that_is_too_large_to_be_drawn_is_listed(self):
         def states(relations, size, count):
