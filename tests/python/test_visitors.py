@@ -224,3 +224,23 @@ class Long(Served):
         self.assertIn(f"{'t' * 990}", self.page(f"/matches/{match}.html"))
         text = self.page(f"/api/matches/{match}")
         self.assertTrue(term in text and move in text)
+
+
+class Flood(Served):
+    MOST = 64
+
+    def ask_for(self, client):
+        """Sends a request, as a proxy does for a client."""
+        connection = self.enterContext(socket.create_connection(("127.0.0.1", self.port), timeout=60))
+        connection.sendall(f"GET /none.html HTTP/1.1\r\nHost: localhost\r\nX-Forwarded-For: {client}\r\n\r\n".encode())
+        return connection
+
+    def test_many_requests_of_one_client_end_no_request_of_another(self):
+        held = threading.Event()
+        self.addCleanup(held.set)
+        # All requests arrive before the first connection is accepted.
+        self.loop.call_soon_threadsafe(held.wait)
+        asked = [self.ask_for(client) for client in ("192.0.2.1", *["192.0.2.2"] * 100)]
+        held.set()
+        answers = [connection.recv(100) for connection in asked]
+        self.assertTrue(answers[0].startswith(b"HTTP/1.1 404 "))

@@ -28,6 +28,9 @@ Value = TypeVar("Value")
 INTERVAL, ALIVE = 1.0, 10.0
 # The head of a request must arrive within HEAD seconds and have at most LONGEST_HEAD bytes. The visitor must accept data within PATIENCE seconds.
 HEAD, LONGEST_HEAD, PATIENCE = 5, 16_384, 20
+# How many connections may wait to be accepted, and how many are accepted at a time: few, so that the heads of earlier ones are read first. Until its
+# head is read, a connection of a proxy does not show its client, and may have to give way.
+BACKLOG, AT_A_TIME = 128, 4
 BUSY = b"HTTP/1.1 503 Service Unavailable\r\nRetry-After: 10\r\nContent-Length: 0\r\nConnection: close\r\n\r\n"
 HEADERS = {
     "Cache-Control": "no-store",
@@ -143,8 +146,10 @@ class Server:
     async def begin(self, address: str, port: int) -> tuple[str, int]:
         """Begins to serve, and returns the address and the port."""
         answering, family = web.Server(self.answer), socket.AF_INET6 if ":" in address else socket.AF_INET
-        listening = socket.create_server((address, port), family=family, backlog=128, dualstack_ipv6=address == "::")
-        self.listener = await asyncio.get_running_loop().create_server(lambda: Connection(self.visitors, answering), sock=listening)
+        listening = socket.create_server((address, port), family=family, backlog=BACKLOG, dualstack_ipv6=address == "::")
+        self.listener = await asyncio.get_running_loop().create_server(lambda: Connection(self.visitors, answering), sock=listening, backlog=AT_A_TIME)
+        # The event loop has made the queue as short as the number that it accepts at a time.
+        listening.listen(BACKLOG)
         self.address, port, *_ = listening.getsockname()
         return self.address, port
 
