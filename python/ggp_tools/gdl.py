@@ -39,6 +39,10 @@ class Rule(NamedTuple):
     head: Expression
     body: Body
 
+    def atoms(self) -> tuple[Expression, ...]:
+        """Returns the head and the atomic sentences of the body."""
+        return (self.head, *(literal.atom for literal in self.body))
+
 
 def as_read(expression: Expression) -> Expression:
     """Replaces the list `(terminal)`, which some descriptions have, by the atom."""
@@ -133,7 +137,7 @@ def bound_by(body: Body) -> set[str]:
 def must_be_safe(rule: Rule) -> None:
     """Refuses a rule with a variable that no sentence of its body binds."""
     bound = bound_by(rule.body)
-    for name in variables((rule.head, *(literal.atom for literal in rule.body))):
+    for name in variables(rule.atoms()):
         if name not in bound:
             advice = f"add a condition with {quoted(name)} that is not negated"
             raise Refused(f"{quoted(name)} is unsafe: no sentence of the body that is not negated has it", advice=advice)

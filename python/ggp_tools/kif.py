@@ -47,10 +47,7 @@ def blanked(text: str) -> str:
 
 def advice_for_bytes(text: str) -> str:
     """Returns advice about a text with bytes that KIF does not allow. The text is decoded as Latin-1."""
-    for head, advice in FILE_HEADS.items():
-        if text.startswith(head):
-            return advice
-    return "write it in ASCII, or in a comment"
+    return next((advice for head, advice in FILE_HEADS.items() if text.startswith(head)), "write it in ASCII, or in a comment")
 
 
 def tokens(text: str, takes_bytes: bool = False) -> Iterator[tuple[str, int, int]]:

@@ -241,7 +241,7 @@ class Splitting(unittest.TestCase):
         while True:
             new = set()
             for rule in found:
-                names = variables((rule.head, *(literal.atom for literal in rule.body)))
+                names = variables(rule.atoms())
                 for values in itertools.product("abcde", repeat=len(names)):
                     by = dict(zip(names, values))
                     if all(self.is_so(literal, by, true) for literal in rule.body):
@@ -251,7 +251,7 @@ class Splitting(unittest.TestCase):
             true |= new
 
     def width(self, found):
-        return max(len(variables((rule.head, *(literal.atom for literal in rule.body)))) for rule in found)
+        return max(len(variables(rule.atoms())) for rule in found)
 
     def is_so(self, literal, by, true):
         atom = put(literal.atom, by)

@@ -71,7 +71,8 @@ class Boards(unittest.TestCase):
 
 class Seats(unittest.TestCase):
     def setUp(self):
-        self.seat, self.answers = Seat(waits_for_page=False), []
+        self.seat, self.answers = Seat(), []
+        self.seat.page_opens(1)
 
     def ask(self, text):
         """Lets the seat answer a message in another thread, like the referee's."""
@@ -251,7 +252,7 @@ class Seats(unittest.TestCase):
         self.assertIn("a 100, b 50", self.seat.view["note"])
 
     def test_nothing_is_answered_for_a_person_that_is_not_there(self):
-        self.seat.waits_for_page = True
+        self.seat.page_opens(-1)
         self.assertEqual(self.seat.answer("(INFO)"), "busy")
         self.seat.page_opens(1)
         self.assertEqual(self.seat.answer("(INFO)"), "available")
@@ -509,7 +510,7 @@ class Pages(unittest.TestCase):
         self.assertEqual(self.request("POST", "/", headers={"Content-Length": "33554433"}).status, 400)
 
     def test_bytes_beyond_ascii_come_back_as_they_came(self):
-        self.seat.waits_for_page = False
+        self.seat.page_opens(1)
         self.assertEqual(self.request("POST", "/", b"(START \xff a ((role b)) x y)").status, 400)
         self.assertEqual(self.request("POST", "/", b"(START M a ((role a) (legal a \xff)) 60 60)").read(), b"ready")
         self.assertEqual(self.request("POST", "/", b"(PLAY M NIL)").read(), b"\xff")

@@ -7,7 +7,7 @@ from collections import Counter
 from unittest import mock
 
 from ggp_tools.instantiating import gringo, limits
-from ggp_tools.instantiating.limits import atoms_of, costs_of, dearest, endless, is_high, refuse_faults, without_high_goals
+from ggp_tools.instantiating.limits import atoms_of, costs_of, dearest, is_endless, is_high, refuse_faults, without_high_goals
 from ggp_tools.instantiating.making import NEVER, Making
 from ggp_tools.gdl import Literal, Rule, all_rules
 from ggp_tools.kif import Refused, expressions, fits, put, told, variables
@@ -98,7 +98,7 @@ class Figures(unittest.TestCase):
 
 class Endless(unittest.TestCase):
     def number(self, text):
-        rule = endless(rules(text))
+        rule = next(filter(is_endless, rules(text)), None)
         return rule and rule.sentence
 
     def test_a_rule_that_makes_a_larger_one_of_each_instance(self):

@@ -41,14 +41,11 @@ class Match:
             if not cause:
                 return "finished" if has_ended else "stopping", None
         else:
-            cause = "toolong" if len(self.moves) == MOST_TURNS else self.role_without_move()
+            stuck = (f"nolegal {number}" for number, role in enumerate(self.game.roles) if not self.legal(role))
+            cause = "toolong" if len(self.moves) == MOST_TURNS else next(stuck, None)
             if not cause:
                 return "playing", None
         return "aborted" if has_ended else "aborting", cause
-
-    def role_without_move(self) -> str | None:
-        """Returns the cause if a role has no legal move."""
-        return next((f"nolegal {number}" for number, role in enumerate(self.game.roles) if not self.legal(role)), None)
 
     def goals(self) -> list[int | None]:
         return [self.game.goal(self.position, role) for role in self.game.roles]

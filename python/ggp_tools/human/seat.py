@@ -81,11 +81,11 @@ def joint_move(moves: object, count: int) -> tuple:
 class Seat:
     """The state of the match that the page shows, and the person's pending move. Each change increases `version` and wakes the waiting threads."""
 
-    def __init__(self, referees: Iterable[str] = (), waits_for_page: bool = True, is_hex: bool = False) -> None:
+    def __init__(self, referees: Iterable[str] = (), is_hex: bool = False) -> None:
         self.changed = threading.Condition()
         # One START is read at a time, because its rules may be long.
         self.reading = threading.Lock()
-        self.version, self.pages, self.waits_for_page, self.is_hex = 0, 0, waits_for_page, is_hex
+        self.version, self.pages, self.is_hex = 0, 0, is_hex
         self.match, self.receiver = "", ""
         # The addresses that may send messages: the given ones, or else the one that sent the first INFO or START.
         self.given = frozenset(referees)
@@ -153,7 +153,7 @@ class Seat:
 
     def is_person_there(self) -> bool:
         """Returns whether a page is open. Without an open page, no move is made for the person."""
-        return bool(self.pages) or not self.waits_for_page
+        return bool(self.pages)
 
     def next_message(self, seconds: int = 0) -> int:
         """Records that a message of a match with a clock of this many seconds has come. Returns its number. Any pending move is cancelled."""

@@ -42,7 +42,7 @@ class LogicProgram:
     def lines_of(self, rule: Rule) -> list[str]:
         """Returns the lines of a rule. A relation that the grounder can evaluate is derived exactly. For other relations everything that may be true
         is derived, so negations of them are dropped."""
-        names = {name: f"V{k}" for k, name in enumerate(variables((rule.head, *(literal.atom for literal in rule.body))))}
+        names = {name: f"V{k}" for k, name in enumerate(variables(rule.atoms()))}
         body = [self.literal(literal, names) for literal in rule.body if literal.positive or self.is_settled(literal)]
         if relation(rule.head)[0] not in GAME and relation(rule.head) not in self.unsettled:
             # Errors cite the first rule with conditions of a relation, or else its first fact.

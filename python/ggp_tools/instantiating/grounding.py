@@ -52,7 +52,7 @@ def needed(rules: list[Rule]) -> list[Rule]:
 
 def in_order(rules: list[Rule]) -> list[Rule]:
     """Returns the rules in the order of the output, without duplicates."""
-    atoms = {atom for rule in rules for atom in (rule.head, *(literal.atom for literal in rule.body))}
+    atoms = {atom for rule in rules for atom in rule.atoms()}
     ranks = {atom: rank for rank, atom in enumerate(sorted(atoms, key=place))}
     rules = sorted(rules, key=lambda rule: (rule.sentence, ranks[rule.head], [(ranks[literal.atom], literal.positive) for literal in rule.body]))
     unique = {}

@@ -42,7 +42,7 @@ def is_high(atom: Expression) -> bool:
 def refuse_faults(rules: list[Rule]) -> None:
     """Refuses what the referee refuses: invalid goals, roles with conditions, and a game without roles."""
     for rule in rules:
-        for atom in (rule.head, *(literal.atom for literal in rule.body)):
+        for atom in rule.atoms():
             if relation(atom)[0] == "goal" and not (isinstance(atom[2], str) and GOAL.fullmatch(atom[2])):
                 raise Refused(f"{quoted(atom)} can be derived, and its goal is not a number from 0 to 100", rule.sentence)
         if rule.head == ("role", "random"):
@@ -90,13 +90,9 @@ def dearest(costs: Counter[int], sentences: Sequence[Expression], lines: Sequenc
     return [f"{cited(number, sentences, lines)}: {counted(round(count), unit)}" for number, count in costs.most_common(3)]
 
 
-def endless(rules: list[Rule]) -> Rule | None:
-    """Returns a rule that derives a larger instance from each of its instances, or None."""
-    return next(filter(is_endless, rules), None)
-
-
 def is_endless(rule: Rule) -> bool:
-    """Returns whether the rule's conditions match its own head with a variable replaced by a larger term, and no other condition limits it."""
+    """Returns whether a rule derives a larger instance from each of its instances: its conditions match its own head with a variable replaced by a
+    larger term, and no other condition limits it."""
     asked = [literal for literal in rule.body if literal.positive and not literal.same]
     if not asked or any(literal.same for literal in rule.body):
         return False

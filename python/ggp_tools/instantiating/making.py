@@ -187,7 +187,7 @@ class Making:
     def explained(self, why: str) -> str:
         """Returns the reason with the facts that are known about the instances."""
         why = "; ".join([why, *self.known])
-        rule = limits.endless(self.rules)
+        rule = next(filter(limits.is_endless, self.rules), None)
         # The derived terms must actually grow: a sentence without instances derives nothing.
         if rule and self.grounder and self.grounder.lists_in(rule) > spelled(self.sentences[rule.sentence]).count("("):
             why = f"there are infinitely many instances: {why}; {self.cited(rule.sentence)}, derives ever larger terms from its own"

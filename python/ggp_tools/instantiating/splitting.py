@@ -5,7 +5,7 @@ head becomes an auxiliary relation over these variables (`split1`, `split2` ..).
 other variables of the part occur nowhere else. Relations that depend on themselves are not split."""
 
 import itertools
-from collections.abc import Iterable, Iterator, Sequence
+from collections.abc import Sequence
 from typing import NamedTuple
 
 from ggp_tools.kif import Expression, atoms, fresh_before_digits, put, relation, variables
@@ -27,7 +27,7 @@ class Part(NamedTuple):
 def split(rules: list[Rule]) -> list[Rule]:
     """Returns the rules after splitting, or the same rules if no part is worth it."""
     circular = Relations(rules).circular
-    word = fresh_before_digits("split", {name for rule in rules for name in (*atoms(rule.head), *body_atoms(rule.body))})
+    word = fresh_before_digits("split", {name for rule in rules for name in atoms(rule.atoms())})
     splitting = Splitting(word)
     for rule in rules:
         if relation(rule.head) in circular:
@@ -35,10 +35,6 @@ def split(rules: list[Rule]) -> list[Rule]:
         else:
             splitting.add(rule)
     return splitting.rules
-
-
-def body_atoms(body: Iterable[Literal]) -> Iterator[Expression]:
-    return (name for literal in body for name in atoms(literal.atom))
 
 
 class Splitting:
