@@ -46,7 +46,6 @@ class Texts(unittest.TestCase):
 
         self.assertEqual(words("(a)\n (b"), "line 2, column 2: a list that is not closed; add a `)`")
         for text, advice in (
-            ("\xef\xbb\xbf(a)", "the file begins with a byte order mark: save it without one"), ("\x1f\x8b\x08", "the file is packed by gzip: unpack it"),
             ("\xff\xfe(\x00", "the file is UTF-16: save it as ASCII"), ("\xe9", "write it in ASCII, or in a comment"),
         ):
             self.assertEqual(words(text).partition("; ")[::2], (f"line 1, column 1: a byte that is not a character of KIF: {text[0]!r}", advice))

@@ -106,10 +106,8 @@ class Refusals(unittest.TestCase):
     def test_what_is_no_sentence(self):
         for text, words in (
             ("?x", "?x is not a sentence"), ("()", "() is not a term"), ("((p) a)", "((p) a) is not a term"), ("(?p a)", "(?p a) is not a term"), ("(p ())", "() is not a term"),
-            ("(p (f (?g)))", "(?g) is not a term"), ("(or p q)", "(or p q) is not a sentence"), ("(role a b)", "(role a b) is not a sentence"), ("role", "role is not a sentence"),
-            ("(terminal a)", "(terminal a) is not a sentence"), ("(legal r)", "(legal r) is not a sentence"), ("(goal r)", "(goal r) is not a sentence"),
-            ("(<=)", "a rule without a head"), ("(true p)", "(true p) is a head"), ("(does r m)", "(does r m) is a head"),
-            ("(<= p (distinct a))", "(distinct a) is not a sentence"), ("(<= p (not))", "(not) is not a sentence"), ("(<= p (or))", "(or) is not a sentence"),
+            ("(p (f (?g)))", "(?g) is not a term"), ("(or p q)", "(or p q) is not a sentence"), ("role", "role is not a sentence"), ("(legal r)", "(legal r) is not a sentence"),
+            ("(goal r)", "(goal r) is not a sentence"), ("(<=)", "a rule without a head"), ("(<= p (or))", "(or) is not a sentence"),
             ("(<= p (distinct () b))", "() is not a term"), ("(<= p (distinct a ()))", "() is not a term"), ("(<= p (or q (not ())))", "() is not a term"),
             ("(<= p (or (next a) q))", "(next a) is in a body"), ("(<= p (and () q))", "() is not a term"),
             ("(<= p (init a))", "(init a) is in a body"), ("(<= p (not (next a)))", "(next a) is in a body"), ("(<= p ?x)", "?x is not a sentence"),

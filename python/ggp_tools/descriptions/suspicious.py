@@ -116,15 +116,12 @@ class Index:
 
     def alike(self, atom: Expression) -> Iterable[Expression]:
         """Returns candidates that agree with an atom at one path, the one with the fewest candidates."""
-        best, least = (), None
-        for way, word in places(atom):
-            if word is not None:
-                # Atoms with a variable at this path, or at one above it, may have any value.
-                candidates = [self.table.get((way[:length], None), ()) for length in range(len(way) + 1)] + [self.table.get((way, word), ())]
-                count = sum(map(len, candidates))
-                if least is None or count < least:
-                    best, least = candidates, count
-        return itertools.chain(*best)
+        # Atoms with a variable at a path, or at one above it, may have any value there.
+        groups = (
+            [self.table.get((way[:length], None), ()) for length in range(len(way) + 1)] + [self.table.get((way, word), ())]
+            for way, word in places(atom) if word is not None
+        )
+        return itertools.chain(*min(groups, key=lambda group: sum(map(len, group)), default=()))
 
 
 class Atoms:

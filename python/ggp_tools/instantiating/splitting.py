@@ -6,6 +6,7 @@ other variables of the part occur nowhere else. Relations that depend on themsel
 
 import itertools
 from collections.abc import Sequence
+from operator import attrgetter
 from typing import NamedTuple
 
 from ggp_tools.kif import Expression, atoms, fresh_before_digits, put, relation, variables
@@ -74,13 +75,9 @@ def best_part(rule: Rule) -> Part | None:
     every = head.union(*named)
     if not 2 <= count <= MOST_LITERALS or len(every) < FEW_VARIABLES:
         return None
-    best = None
-    for size in range(1, count):
-        for inside in itertools.combinations(range(count), size):
-            part = part_of(inside, head, named, binding)
-            if part and part.cost[0] < len(every) and (best is None or part.cost < best.cost):
-                best = part
-    return best
+    sides = itertools.chain.from_iterable(itertools.combinations(range(count), size) for size in range(1, count))
+    parts = (part_of(inside, head, named, binding) for inside in sides)
+    return min((part for part in parts if part and part.cost[0] < len(every)), key=attrgetter("cost"), default=None)
 
 
 def part_of(inside: tuple[int, ...], head: frozenset[str], named: list[frozenset[str]], binding: list[frozenset[str]]) -> Part | None:
