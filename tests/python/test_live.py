@@ -31,7 +31,7 @@ ROLES = "red", "blue"
 
 def shown(seen):
     """Returns the players that the row of an open match shows as awaited."""
-    return text_of(parsed(open_row(seen, ROLES)[1])("td")[4])
+    return text_of(parsed(open_row(seen)[1])("td")[4])
 
 
 def setUpModule():

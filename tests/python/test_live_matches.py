@@ -100,7 +100,7 @@ class Matches(InFolder):
         log, referee, count = self.folder / "log", Counting(program()), 0
         log.write_bytes(b"")
         board = LiveBoard(self.match, record["strikes"], self.folder / "rules")
-        seen = LiveMatch(self.match, Tail(str(log), event_of), board)
+        seen = LiveMatch(self.match, ("a", "b"), Tail(str(log), event_of), board)
         messages = [event for event in map(event_of, lines) if isinstance(event, Message)]
         for line in lines:
             with open(log, "ab") as file:

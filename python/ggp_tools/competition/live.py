@@ -119,6 +119,7 @@ class LiveMatch:
     else of that round. `version` counts the changes of what is shown."""
 
     match: Match
+    roles: tuple[str, ...]
     tail: Tail[Event]
     board: LiveBoard
     stage: str = ""
@@ -422,7 +423,7 @@ class Reader:
         folder = self.plan.folder
         self.faults.pop(match.id, None)
         board = LiveBoard(match, self.plan.competition.strikes, folder.rules_of(match.game))
-        return LiveMatch(match, Tail(str(folder.room_log(match.id)), event_of, str(folder.log(match.id))), board)
+        return LiveMatch(match, self.plan.roles(match.game), Tail(str(folder.room_log(match.id)), event_of, str(folder.log(match.id))), board)
 
     @contextlib.contextmanager
     def noting_changes(self, live_match: LiveMatch) -> Iterator[None]:

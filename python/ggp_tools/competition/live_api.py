@@ -33,7 +33,7 @@ def state_keys(reader: Reader, match: Match) -> Keys:
         outcomes, replaced = zip(*((result.outcome(role), result.replaced(role)) for role in range(len(match.players))))
         return {"state": "over", **result_keys(result), "outcomes": outcomes, "replaced": replaced}
     if live_match := reader.open.get(match.id):
-        status, turns = status_of(live_match, reader.plan.roles(match.game)), len(live_match.board.position.moves)
+        status, turns = status_of(live_match), len(live_match.board.position.moves)
         return {"state": "open", "stage": stage_of(live_match), "turns": turns, "since": status.since, "awaited": status.players}
     why = reader.faults.get(match.id) or reader.given_up.get(match.id)
     return {"state": "given up", "why": why} if why else {"state": "waiting"}

@@ -49,7 +49,7 @@ def live_part(name: str, macro: str = "", /, **values: object) -> Part:
     return Part(name, html_of("live", macro or name, **values))
 
 
-def status_of(live_match: LiveMatch, roles: tuple[str, ...]) -> Status:
+def status_of(live_match: LiveMatch) -> Status:
     if live_match.stage in STAGES:
         return Status(STAGES[live_match.stage], live_match.since)
     named, mover = live_match.named(), live_match.board.position.mover()
@@ -60,15 +60,15 @@ def status_of(live_match: LiveMatch, roles: tuple[str, ...]) -> Status:
         return Status(f"the answers to {what}", live_match.since, True)
     players = tuple(live_match.match.players[role] for role in named)
     if named == [mover]:
-        return Status("", live_match.since, False, players, roles[mover])
+        return Status("", live_match.since, False, players, live_match.roles[mover])
     return Status(what, live_match.since, True, players)
 
 
-def open_row(live_match: LiveMatch, roles: tuple[str, ...]) -> Item:
+def open_row(live_match: LiveMatch) -> Item:
     match = live_match.match
     missed = [(match.players[role], count) for role, count in sorted(live_match.missed.items())]
     turn = live_match.turn() if live_match.stage == "playing" else ""
-    return f"open-{match.id}", html_of("live", "open_row", match=match, turn=turn, status=status_of(live_match, roles), missed=missed)
+    return f"open-{match.id}", html_of("live", "open_row", match=match, turn=turn, status=status_of(live_match), missed=missed)
 
 
 def state_html(states: list[list[str]], roles: tuple[str, ...], named: Named, notes: list[str]) -> "Markup":
@@ -79,11 +79,11 @@ def state_html(states: list[list[str]], roles: tuple[str, ...], named: Named, no
     return html_of("live", "state", found=shown, notes=notes)
 
 
-def board_item(live_match: LiveMatch, state: "Markup", roles: tuple[str, ...]) -> Item:
+def board_item(live_match: LiveMatch, state: "Markup") -> Item:
     """Returns the board of an open match on the first page."""
     match, turn = live_match.match, len(live_match.board.position.moves)
-    name, status = f"board-{match.id}", status_of(live_match, roles)
-    return name, html_of("live", "board", name=name, match=match, roles=roles, turn=turn, status=status, result="", state=state)
+    name, status = f"board-{match.id}", status_of(live_match)
+    return name, html_of("live", "board", name=name, match=match, roles=live_match.roles, turn=turn, status=status, result="", state=state)
 
 
 def last_board_item(result: Result, state: "Markup", roles: tuple[str, ...]) -> Item:
@@ -120,7 +120,7 @@ def live_parts(reader: Reader, boards: list[Item]) -> PageParts:
     left, why = reader.waiting(), reader.given_up
     given_up = [(match, why[match.id]) for match in left if match.id in why]
     waiting = [(match, "") for match in left if match.id not in why]
-    rows = [open_row(live_match, reader.plan.roles(live_match.match.game)) for live_match in reader.open.values()]
+    rows = list(map(open_row, reader.open.values()))
     return [
         now_part(reader, len(waiting), len(given_up)),
         Items("boards", '<div class="boards" id="boards">', tuple(boards), "</div>"),
@@ -151,12 +151,12 @@ def answers_part(live_match: LiveMatch) -> Part:
     return live_part("answers", rows=rows) if rows else Part("answers", "")
 
 
-def open_match_parts(live_match: LiveMatch, state: "Markup", head: Part, roles: tuple[str, ...]) -> PageParts:
-    board = live_match.board
+def open_match_parts(live_match: LiveMatch, state: "Markup", head: Part) -> PageParts:
+    board, roles = live_match.board, live_match.roles
     turns, mover = [turn_row(turn) for turn in reversed(board.turns())], board.position.mover()
     return [
         head,
-        live_part("now", "match_now", status=status_of(live_match, roles)),
+        live_part("now", "match_now", status=status_of(live_match)),
         live_part("state", "match_state", turn=len(board.position.moves), mover="" if mover is None else roles[mover], state=state),
         rows_part("turns", "Last turns", ["turn", *roles], turns, "No turn is over.", html_of("boards", "idle_too")),
         answers_part(live_match),

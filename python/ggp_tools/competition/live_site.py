@@ -322,18 +322,17 @@ class LiveSite:
 
     def match_parts(self, name: str) -> PageParts:
         match, live_match = self.reader.known[name], self.reader.open.get(name)
-        roles = self.plan.roles(match.game)
-        head = live_pages.match_head(match, self.plan.competition, roles)
+        head = live_pages.match_head(match, self.plan.competition, self.plan.roles(match.game))
         if not live_match:
             return live_pages.waiting_match_parts(self.reader.faults.get(name, ""), self.reader.given_up.get(name, ""), head)
-        return live_pages.open_match_parts(live_match, self.state_of(live_match), head, roles)
+        return live_pages.open_match_parts(live_match, self.state_of(live_match), head)
 
     def board_items(self) -> list[tuple[str, str]]:
         """Returns the boards of the first page, in the schedule's order."""
         items = {}
         for name, live_match in itertools.islice(self.reader.open.items(), live_pages.BOARDS):
             if live_match.stage != "asking":
-                items[name] = live_pages.board_item(live_match, self.state_of(live_match), self.plan.roles(live_match.match.game))
+                items[name] = live_pages.board_item(live_match, self.state_of(live_match))
         for name, (_, states) in sorted(self.reader.ended.items(), key=lambda ended: ended[1][0])[-live_pages.BOARDS_OVER :]:
             if result := self.reader.results.get(name):
                 state = self.state(result.match, -1, lambda: states, [])
