@@ -31,7 +31,7 @@ from ggp_tools.competition.page_parts import Items, Part
 from ggp_tools.competition.rounds import Round
 from ggp_tools.referee import NoReferee, Referee
 from html_pages import links_of, parsed, rows_of, text_of
-from live_support import SILENT, Missed, begin, end, line, look, plan_in, record_of, started
+from live_support import SILENT, Missed, begin, end, line, plan_in, record_of, started
 from support import GAMES, InFolder, program, run, start
 
 HOSTILE = ["<script>alert(1)</script>", "\"'><img src=x onerror=alert(1)>", "</tbody></table><b>", "&lt;&#65;", "<!--"]
@@ -233,18 +233,6 @@ class Pages(Served):
         self.look()
         self.page("/")
         self.assertIs(self.site.pages["/index.html"].parts, made)
-
-    def test_a_record_that_has_become_too_long(self):
-        long, other = self.plan.matches[:2]
-        for match in (long, other):
-            end(self.plan, match, record_of(match, [], [], [50, 50]))
-        look(self.site.reader)
-        with open(self.plan.folder.record(long.id), "r+b") as file:
-            file.truncate(1 << 40)
-        self.look()
-        first = self.page("/")
-        self.assertIn("1 of 6 matches are over.", first)
-        self.assertIn(f"{long.id} does not count: it is longer than 16 MiB", first)
 
     def test_a_record_that_can_not_be_one_is_named_and_stops_nothing(self):
         match, other = self.plan.matches[:2]
@@ -673,19 +661,6 @@ class Events(Served):
         while self.visitors.viewers:
             self.look()
         self.assertEqual(self.site.pages["/index.html"].viewers, 0)
-
-    def test_who_comes_late_gets_what_it_missed(self):
-        match = self.plan.matches[0]
-        log = begin(self.plan, match, started(match))
-        self.look()
-        page = self.page("/")
-        answers = [self.events(page)]
-        for number in range(2, 5):
-            self.say(log, self.play(match, number, "NIL", ["(take 1)", "noop"]))
-        answers.append(self.events(page))
-        told = [[self.next_event(answer) for _ in range(3)] for answer in answers]
-        self.assertEqual(told[0], told[1])
-        self.assertTrue(self.next_event(self.events(page.replace("?after=", "?after=other")))["reload"])
 
     def test_a_page_that_nobody_looks_at_is_not_made(self):
         match = self.plan.matches[0]

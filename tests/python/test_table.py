@@ -114,8 +114,6 @@ class Tables(unittest.TestCase):
         whole, two, _ = self.by_rounds("knockout", rounds, [*first, (("ann", "cid"), [100, 0], 2, "")])
         self.assertEqual([(of.player, of.rounds_won, of.byes, of.buchholz) for of in whole.standings()], [("ann", 1, 1, None), ("cid", 1, 0, None), ("bob", 0, 0, None)])
         self.assertEqual((whole.ranks(), whole.by, two.by), ([1, 1, 3], "knockout", "points"))
-        second = [(pair, goals, 2, "") for pair, goals in ((("ann", "cid"), [0, 100]), (("cid", "ann"), [100, 0])) for _ in range(2)]
-        self.assertEqual([(of.player, of.rounds_won) for of in self.by_rounds("knockout", rounds, [*first, *second])[0].standings()], [("cid", 2), ("ann", 1), ("bob", 0)])
 
     def test_a_rating_next_to_nothing_has_no_sign(self):
         for rating, said in ((-0.4, "0 +- 118"), (0.4, "0 +- 118"), (-0.6, "-1 +- 118"), (-118.5, "-118 +- 118")):
