@@ -12,7 +12,7 @@ from unittest import mock
 from ggp_tools.competition import tail
 from ggp_tools.competition.replaced import MOST_OF_MATCH, MOST_REPLACED, Replaced, newest, replaced_moves
 from ggp_tools.competition.schedule import Match
-from ggp_tools.competition.tail import Tail
+from ggp_tools.competition.tail import Extent, Tail
 
 MATCH = Match("cup-001", "nim", 10, 5, ("ann", "bob"))
 
@@ -20,18 +20,18 @@ MATCH = Match("cup-001", "nim", 10, 5, ("ann", "bob"))
 class Moments(unittest.TestCase):
     def test_the_newest_are_last_and_of_one_moment_those_of_the_later_turn(self):
         dice = random.Random(3)
-        found = [Replaced(MATCH, "ann", turn, "TO", "m", dice.choice((1.0, 2.0, 3.0))) for turn in range(60)]
+        found = [Replaced(MATCH, "ann", turn, "TO", "m", dice.choice((1.0, 2.0, 3.0)), turn) for turn in range(60)]
         wanted = [move for moment in (1.0, 2.0, 3.0) for move in found if move.moment == moment][-MOST_REPLACED:]
         shuffled = list(found)
         dice.shuffle(shuffled)
         self.assertEqual((newest(shuffled), MOST_REPLACED, newest(found[:1]), newest([]), MOST_OF_MATCH), (wanted, 20, found[:1], [], 3))
 
     def test_each_error_is_a_replaced_move(self):
-        turns = [(("a", "b"), ("", "TO")), (("c", "d"), ("", "")), (("e", "f"), ("IL x", "RT"))]
-        found = replaced_moves(MATCH, turns, {1: 5.0}, 9.0)
-        self.assertEqual([(move.player, move.turn, move.error, move.move, move.moment) for move in found], [
-            ("bob", 1, "TO", "b", 5.0), ("ann", 3, "IL x", "e", 9.0), ("bob", 3, "RT", "f", 9.0),
-        ])
+        turns = [(("a", "b"), ("", "TO")), (("c", "d"), ("lost", "")), (("e", "f"), ("IL x", "RT"))]
+        moves = [("bob", 1, "TO", "b", 5.0, 0), ("ann", 3, "IL x", "e", 9.0, 1), ("bob", 3, "RT", "f", 9.0, 2)]
+        self.assertEqual(replaced_moves(MATCH, turns, {1: 5.0}, 9.0), [Replaced(MATCH, *move) for move in moves])
+        # Only the last ones are returned, and the first of them has the number of those before.
+        self.assertEqual([(move.turn, move.before) for move in replaced_moves(MATCH, turns * 2, {}, 9.0)], [(4, 3), (6, 4), (6, 5)])
 
 
 class Text(NamedTuple):
@@ -53,7 +53,7 @@ class Growing(unittest.TestCase):
         self.tail = Tail(str(self.file), parsed)
 
     def added(self, found: Tail | None = None, until: int = sys.maxsize) -> tuple[list[str], bool]:
-        texts, is_other = (found or self.tail).added(until)
+        texts, is_other = (found or self.tail).added(Extent(until))
         return [text.text for text in texts], is_other
 
     def test_lines_as_they_come(self):
@@ -98,7 +98,7 @@ class Growing(unittest.TestCase):
         self.file.write_text("100 one\n")
         tail, number = Tail(str(self.file), parsed, "later"), self.file.stat().st_ino
         for at, head, found in ((number + 1, b"100", []), (number, b"101", []), (number, b"100", ["100 one"])):
-            self.assertEqual([text.text for text in tail.added(8, at, head)[0]], found)
+            self.assertEqual([text.text for text in tail.added(Extent(8, at, head))[0]], found)
             self.assertEqual(tail.is_behind, not found)
 
     def test_lines_past_the_given_bytes_come_later_also_from_a_later_file(self):
