@@ -2,11 +2,11 @@
 
 from ggp_tools.holding.game import Game
 from ggp_tools.holding.match import texts_of
+from ggp_tools.holding.positions import State
 from ggp_tools.kif import spelled
 from ggp_tools.records.show import Board, Group, Named, Place, last_state, places_of, words_of
 from ggp_tools.templating import macros
 
-State = frozenset
 # Stands for the row of a move that names only a column.
 ANY_ROW = 0
 

@@ -96,9 +96,9 @@ class Seat:
         self.asked = 0
         # When the next message of the match must arrive.
         self.expected = 0.0
+        # There is one as soon as `match` is set.
         self.shown: Shown | None = None
         self.view: dict = {"phase": "waiting", "note": NO_MATCH}
-        self.roles: list[str] = []
         self.role: object = None
         self.legal: list[str] = []
         self.sent: str | None = None
@@ -194,8 +194,8 @@ class Seat:
         with self.changed:
             if self.asked != asked:
                 return None
-            self.match, self.receiver, self.role, self.play_clock, self.sent = match, receiver, role, play_clock, None
-            self.shown, self.roles = shown, shown.roles
+            self.shown, self.role, self.play_clock, self.sent = shown, role, play_clock, None
+            self.match, self.receiver = match, receiver
             self.show("ready", [], f"Match {match}: you are {own}.")
         return asked
 
@@ -208,10 +208,10 @@ class Seat:
 
     def play(self, moves: object) -> str | None:
         """Shows the state and waits for the person's move. While a page is open, a single legal move is made without asking."""
-        deadline, made = time.monotonic() + self.play_clock - SPARE, joint_move(moves, len(self.roles))
+        deadline, made = time.monotonic() + self.play_clock - SPARE, joint_move(moves, len(self.shown.roles))
         asked = self.next_message(self.play_clock)
         note = self.advance(made)
-        legal = self.shown.legal(self.role) if self.shown else []
+        legal = self.shown.legal(self.role)
         with self.changed:
             if self.asked != asked:
                 return None
@@ -235,30 +235,27 @@ class Seat:
         return self.sent is not None or len(self.legal) == 1 and self.is_person_there()
 
     def stop(self, moves: object) -> str:
-        made = joint_move(moves, len(self.roles))
+        made = joint_move(moves, len(self.shown.roles))
         asked = self.next_message()
         note = self.advance(made)
-        goals = self.shown.goals() if self.shown else {}
-        text = ", ".join(f"{role} {'no goal' if goal is None else goal}" for role, goal in goals.items())
+        text = ", ".join(f"{role} {'no goal' if goal is None else goal}" for role, goal in self.shown.goals().items())
         self.end(asked, "over", f"{note} The match is over: {text}.".strip())
         return "done"
 
     def advance(self, moves: tuple) -> str:
         """Applies the joint move of a message. Returns a note about it."""
-        if not moves or self.shown is None:
+        if not moves:
             return ""
         self.shown.advance(moves)
-        own = spelled(moves[self.roles.index(spelled(self.role))])
+        own = spelled(moves[self.shown.roles.index(spelled(self.role))])
         return f"Your move was replaced by {own}." if own != self.sent else ""
 
     # ---- the page
 
     def show(self, phase: str, legal: list[str], note: str) -> None:
         """Shows the current state."""
-        picture = self.shown.picture(legal) if self.shown else {}
-        turn = len(self.shown.states) if self.shown else 0
-        named = {"match": self.match, "role": spelled(self.role), "name": self.receiver, "turn": turn, "clock": self.play_clock, "sent": self.sent}
-        self.say(phase=phase, note=note, asked=self.asked, **named, **picture)
+        named = {"match": self.match, "role": spelled(self.role), "name": self.receiver, "clock": self.play_clock, "sent": self.sent}
+        self.say(phase=phase, note=note, asked=self.asked, turn=len(self.shown.states), **named, **self.shown.picture(legal))
 
     def say(self, **view: object) -> None:
         with self.changed:

@@ -31,7 +31,7 @@ ROOM, MOST_CALLS = 20_000, 1_000
 # A record may be followed by another one, or by a line of its call log.
 FOLLOWS = re.compile(r"\{|[0-9]+\t[^\t\n]+\t")
 # The beginning of each record, and the end of one that was cut within a word or a number.
-BEGIN = '{"cause":'
+BEGIN = b'{"cause":'
 CUT_WORD = re.compile(r"-|t(ru?)?|f(a(ls?)?)?|n(ul?)?")
 # The messages of Python's JSON parser, and our messages for them.
 JSON_WORDS = {
@@ -82,7 +82,7 @@ def json_lines(data: bytes) -> list[str]:
 
 def cut_lines(doc: str, why: json.JSONDecodeError) -> list[str]:
     """Explains which part of a record is missing."""
-    text, again = doc.rstrip(), doc.find(BEGIN, 1)
+    text, again = doc.rstrip(), doc.find(BEGIN.decode(), 1)
     if doc.startswith("{") and again > 0:
         return [f"Another record begins at byte {again + 1}: the one before it was cut off, for example because a record was appended to an unfinished line."]
     is_cut = why.pos >= len(text) or why.msg.startswith("Unterminated string") or CUT_WORD.fullmatch(text, why.pos)

@@ -14,7 +14,7 @@ from ggp_tools.holding.game import Game
 from ggp_tools.kif import Expression, expressions, grouped, head_of, is_variable, spelled
 from ggp_tools.printable import MOST_SHOWN, visible
 from ggp_tools.records.marks import PIECES, Mark, marks_of
-from ggp_tools.records.record import ACCOUNT_LINE, CAUSE, LONGEST_RECORD, TOO_LONG, NoRecord, numbered_lines, read_record
+from ggp_tools.records.record import ACCOUNT_LINE, BEGIN, CAUSE, LONGEST_RECORD, TOO_LONG, NoRecord, numbered_lines, read_record
 from ggp_tools.streams import Ended, opened, put_bytes, status_of
 from ggp_tools.templating import joined, macros, page
 
@@ -28,7 +28,6 @@ ABOUT = (
     "check whether the match is lawful: use `ggp_manager verify` for this."
 )
 STATUS = "status 0: the page was written. 1: the file is not a record. 2: usage error, or the file cannot be read, or the page cannot be written."
-RECORD_BEGINS = b'{"cause":'
 ONE_RECORD = "Pass one record, or make a page of each with `ggp-records pages`"
 LONGEST_AXIS = 32
 # A page that would have more boards lists terms instead, because a board is about a hundred times as long as its terms.
@@ -89,7 +88,7 @@ def record_of(file: BinaryIO) -> bytes:
             if not ACCOUNT_LINE.fullmatch(line):
                 raise NoRecord(f"line {number + 2} is not a line of its call log. {ONE_RECORD}")
         data = first
-    elif first.startswith(RECORD_BEGINS) and second.startswith(RECORD_BEGINS):
+    elif first.startswith(BEGIN) and second.startswith(BEGIN):
         raise NoRecord(f"line 2 is another record. {ONE_RECORD}")
     else:
         data = (first + second + file.read(LONGEST_RECORD + 2))[: LONGEST_RECORD + 2]
