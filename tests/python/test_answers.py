@@ -1,5 +1,6 @@
 """The explanations of answers that are not legal moves."""
 
+import json
 import unittest
 
 from ggp_tools.answers import Illegal, Whys, game_of, listed, no_expression
@@ -57,11 +58,8 @@ class Answers(unittest.TestCase):
         self.assertEqual(Whys(RECORD, None, {}).more(0, 0, "IL x"), "")
 
     def test_a_page_has_them_as_titles(self):
-        record = {
-            "phase": "playing", "cause": None, "roles": ["red", "blue"], "players": ["a", "b"], "goalValues": [], "startMarks": ["", ""],
-            "endMarks": [None, None], "errors": [["IL <b>", "IL ?"]], "moves": [["(take 1)", "noop"]], "states": STATES, "version": 2, "strikes": 0,
-            "matchId": "m1", "startClock": 1, "playClock": 1,
-        }
+        record = json.loads((GAMES / "countdown.out").read_text().splitlines()[-1])
+        record |= {"phase": "playing", "goalValues": [], "errors": [["IL <b>", "IL ?"]], "moves": [["(take 1)", "noop"]], "states": STATES}
         hostile = (GAMES / "countdown.kif").read_bytes().replace(b"take", b'"><i>')
         titles = [cell["title"] for cell in parsed(page_of(record, lambda: game_of(hostile), {(1, 0): "(<i>"})).select("td.substituted")]
         told = ['the answer was not a legal move, of which there were 2: ("><i> 1), ("><i> 2)', "the answer was not one expression: a list that is not closed at column 1"]

@@ -286,6 +286,10 @@ class Pages(unittest.TestCase):
         line.request(method, path, body, headers or {})
         return line.getresponse()
 
+    def post(self, message, source="127.0.0.1"):
+        """Returns the answer to a message of a referee."""
+        return self.request("POST", "/", message, source=source).read()
+
     def of_page(self, name=""):
         return f"{self.server.page}{name}"
 
@@ -309,7 +313,7 @@ class Pages(unittest.TestCase):
     def test_start_waits_for_a_page_and_the_page_is_told_of_each_change(self):
         answered = []
         body = f"(START M xplayer ({RULES}) 60 60)"
-        asked = threading.Thread(target=lambda: answered.append(self.request("POST", "/", body).read()))
+        asked = threading.Thread(target=lambda: answered.append(self.post(body)))
         asked.start()
         events = self.request("GET", self.of_page("events"))
         asked.join(SECONDS)
@@ -347,21 +351,20 @@ class Pages(unittest.TestCase):
             self.assertEqual(self.request("POST", "/", "(INFO)", other).status, 403)
 
     def test_only_the_referee_takes_the_seat(self):
-        self.seat.page_opens(1)
         start = f"(START N xplayer ({RULES}) 60 86400)"
-        for referees, theirs in (((), "127.0.0.1"), (("127.0.0.3", "127.0.0.1"), "127.0.0.1")):
+        for referees in ((), ("127.0.0.3", "127.0.0.1")):
             self.serve(*referees)
             self.seat.page_opens(1)
             if referees:
-                self.assertEqual(self.request("POST", "/", start, source="127.0.0.2").read(), b"busy")
-            self.assertEqual(self.request("POST", "/", "(INFO)", source=theirs).read(), b"available")
+                self.assertEqual(self.post(start, "127.0.0.2"), b"busy")
+            self.assertEqual(self.post("(INFO)"), b"available")
             for message in (start, "(INFO)", "(ABORT M)"):
-                self.assertEqual(self.request("POST", "/", message, source="127.0.0.2").read(), b"busy")
-            self.assertEqual(self.request("POST", "/", f"(START M oplayer ({RULES}) 60 60)", source=theirs).read(), b"ready")
+                self.assertEqual(self.post(message, "127.0.0.2"), b"busy")
+            self.assertEqual(self.post(f"(START M oplayer ({RULES}) 60 60)"), b"ready")
             for message in (start, "(PLAY M NIL)", "(STOP M NIL)", "(ABORT M)"):
-                self.assertEqual(self.request("POST", "/", message, source="127.0.0.2").read(), b"busy")
-            self.assertEqual(self.request("POST", "/", start, source=theirs).read(), b"busy")
-            self.assertEqual(self.request("POST", "/", "(PLAY M NIL)", source=theirs).read(), b"noop")
+                self.assertEqual(self.post(message, "127.0.0.2"), b"busy")
+            self.assertEqual(self.post(start), b"busy")
+            self.assertEqual(self.post("(PLAY M NIL)"), b"noop")
 
     def leave(self, match):
         return self.request("POST", self.of_page("move"), json.dumps({"leave": match})).status
@@ -376,39 +379,39 @@ class Pages(unittest.TestCase):
         self.seat.page_opens(1)
         self.assertEqual((self.view()["referee"], self.view()["playing"]), ("", ""))
         with contextlib.redirect_stderr(io.StringIO()) as said:
-            self.assertEqual(self.request("POST", "/", f"(START N xplayer ({RULES}) 86400 86400)", source="127.0.0.2").read(), b"ready")
+            self.assertEqual(self.post(f"(START N xplayer ({RULES}) 86400 86400)", "127.0.0.2"), b"ready")
         self.assertRegex(said.getvalue(), "^ggp-human: .* only from 127.0.0.2, .* restart it with --referee ADDRESS\n$")
         self.assertEqual((self.view()["referee"], self.view()["playing"]), ("127.0.0.2", "N"))
         start = f"(START M oplayer ({RULES}) 60 60)"
-        self.assertEqual(self.request("POST", "/", start).read(), b"busy")
+        self.assertEqual(self.post(start), b"busy")
         for path in ("/move", "/leave"):
             self.assertEqual(self.request("POST", path, '{"leave": "N"}').status, 404)
         self.assertEqual([self.leave(match) for match in ("M", "", ["N"], "N", "N")], [409, 409, 409, 200, 409])
         for message in ("(PLAY N NIL)", f"(START N xplayer ({RULES}) 60 60)"):
-            self.assertEqual(self.request("POST", "/", message, source="127.0.0.2").read(), b"busy")
+            self.assertEqual(self.post(message, "127.0.0.2"), b"busy")
         self.assertEqual((self.view()["referee"], self.view()["playing"]), ("", ""))
-        self.assertEqual(self.request("POST", "/", start).read(), b"ready")
-        self.assertEqual(self.request("POST", "/", "(PLAY M NIL)").read(), b"noop")
-        self.assertEqual(self.request("POST", "/", "(INFO)", source="127.0.0.2").read(), b"busy")
+        self.assertEqual(self.post(start), b"ready")
+        self.assertEqual(self.post("(PLAY M NIL)"), b"noop")
+        self.assertEqual(self.post("(INFO)", "127.0.0.2"), b"busy")
         self.assertEqual((self.view()["referee"], self.view()["playing"]), ("127.0.0.1", "M"))
 
     def test_another_referee_is_accepted_before_a_match(self):
         self.seat.page_opens(1)
         self.request("POST", "/", "(INFO)", source="127.0.0.2")
-        self.assertEqual(self.request("POST", "/", "(INFO)").read(), b"busy")
+        self.assertEqual(self.post("(INFO)"), b"busy")
         self.assertEqual(self.leave(""), 200)
-        self.assertEqual(self.request("POST", "/", "(INFO)").read(), b"available")
+        self.assertEqual(self.post("(INFO)"), b"available")
 
     def test_a_match_of_a_given_referee_is_left(self):
         self.serve("127.0.0.1", "127.0.0.3")
         self.seat.page_opens(1)
         for match in ("M", "N"):
             start = f"(START {match} oplayer ({RULES}) 60 60)"
-            self.assertEqual(self.request("POST", "/", start).read(), b"ready")
+            self.assertEqual(self.post(start), b"ready")
             self.assertEqual((self.view()["referee"], self.view()["playing"]), ("", match))
             self.assertEqual(self.leave(match), 200)
             for source in ("127.0.0.1", "127.0.0.2", "127.0.0.3"):
-                self.assertEqual(self.request("POST", "/", start, source=source).read(), b"busy")
+                self.assertEqual(self.post(start, source), b"busy")
 
     def test_a_long_message_of_a_stranger_is_not_read(self):
         self.serve("127.0.0.3")
@@ -427,7 +430,7 @@ class Pages(unittest.TestCase):
         # The connections above the limit are closed.
         self.assertEqual(many[-1].recv(1), b"")
         self.seat.page_opens(1)
-        self.assertEqual(self.request("POST", "/", "(INFO)").read(), b"available")
+        self.assertEqual(self.post("(INFO)"), b"available")
         for line in many:
             line.close()
         answered = None
@@ -448,7 +451,7 @@ class Pages(unittest.TestCase):
         for sources in (["127.0.0.1"], [f"127.0.0.{at}" for at in range(2, 60)]):
             for source in sources:
                 self.half(source, -(-200 // len(sources)))
-            self.assertEqual(self.request("POST", "/", "(INFO)").read(), b"available")
+            self.assertEqual(self.post("(INFO)"), b"available")
             # A connection that gave way is counted until its thread has ended.
             while len(self.server.requests) > MOST_CONNECTIONS:
                 time.sleep(0.01)
@@ -506,11 +509,11 @@ class Pages(unittest.TestCase):
 
     def test_a_message_may_have_32_mib(self):
         self.seat.page_opens(1)
-        self.assertEqual(self.request("POST", "/", "(INFO)".ljust(33_554_432)).read(), b"available")
+        self.assertEqual(self.post("(INFO)".ljust(33_554_432)), b"available")
         self.assertEqual(self.request("POST", "/", headers={"Content-Length": "33554433"}).status, 400)
 
     def test_bytes_beyond_ascii_come_back_as_they_came(self):
         self.seat.page_opens(1)
         self.assertEqual(self.request("POST", "/", b"(START \xff a ((role b)) x y)").status, 400)
-        self.assertEqual(self.request("POST", "/", b"(START M a ((role a) (legal a \xff)) 60 60)").read(), b"ready")
-        self.assertEqual(self.request("POST", "/", b"(PLAY M NIL)").read(), b"\xff")
+        self.assertEqual(self.post(b"(START M a ((role a) (legal a \xff)) 60 60)"), b"ready")
+        self.assertEqual(self.post(b"(PLAY M NIL)"), b"\xff")

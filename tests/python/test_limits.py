@@ -12,10 +12,7 @@ from ggp_tools.instantiating.making import NEVER, Making
 from ggp_tools.gdl import Literal, Rule, all_rules
 from ggp_tools.kif import Refused, expressions, fits, put, told, variables
 from support import raised
-
-
-def rules(text):
-    return all_rules(expressions(text))
+from test_grounding import rules
 
 
 class Goals(unittest.TestCase):

@@ -417,8 +417,7 @@ class Folded:
         for head, bodies in self.bodies.items():
             atom = self.formulas.nodes[head][1]
             for body in bodies:
-                ordered = sorted(body)
-                sentence = ("<=", atom, *map(self.formulas.expression, ordered)) if body else atom
+                sentence = ("<=", atom, *map(self.formulas.expression, sorted(body))) if body else atom
                 yield self.sources[head], sentence
 
 
