@@ -5,7 +5,7 @@ import math
 from collections.abc import Callable, Iterable, Iterator, Mapping, Sequence
 from typing import NamedTuple
 
-from ggp_tools.kif import Expression, Refused, Relation, atoms, fresh_before_digits, head_of, quoted, relation, starts, variables
+from ggp_tools.kif import DIGITS, Expression, Refused, Relation, atoms, fresh, head_of, quoted, relation, starts, variables
 from ggp_tools.printable import shown
 
 # A sentence may expand into at most MOST_WAYS rules, one for each way to satisfy its `or`s. Above FEW_WAYS each `or` becomes an auxiliary
@@ -186,7 +186,7 @@ def cited(number: int, sentences: Sequence[Expression], lines: Sequence[int] = (
 
 def all_rules(sentences: Sequence[Expression], of_one: Callable = rules_of) -> list:
     """Returns the rules of all sentences. A refusal has the number of its sentence."""
-    word = fresh_before_digits("either", set(atoms(tuple(sentences))))
+    word = fresh("either", set(atoms(tuple(sentences))), DIGITS)
     rules, names = [], (f"{word}{count}" for count in itertools.count(1))
     for number, sentence in enumerate(sentences):
         try:

@@ -1,7 +1,7 @@
 """Parses KIF: an atom is a string, a list a tuple. `Refused` says why a description is refused."""
 
 import re
-from collections.abc import Callable, Hashable, Iterable, Iterator
+from collections.abc import Callable, Collection, Hashable, Iterable, Iterator
 from typing import TypeVar
 
 from ggp_tools.printable import shown
@@ -18,6 +18,8 @@ FILE_HEADS = {
 }
 # Messages show at most this many characters of a sentence.
 MOST_SHOWN = 160
+# The end of a word that has a number.
+DIGITS = "[0-9]+"
 COMMENT = re.compile(r";[^\n]*")
 TOKEN = re.compile(r"[()]|[^\s()]+")
 VARIABLE = re.compile(r"(?<![^\s()])\?")
@@ -189,15 +191,8 @@ def grouped(values: Iterable[Value], key: Callable[[Value], Key]) -> dict[Key, l
     return groups
 
 
-def fresh(word: str, taken: Iterable[str]) -> str:
-    """Appends hyphens to a word until it is not one of those that are taken."""
-    while word in taken:
-        word += "-"
-    return word
-
-
-def fresh_before_digits(word: str, taken: Iterable[str]) -> str:
-    """Appends hyphens to a word until it, followed by a number, is not one of those that are taken."""
-    while any(re.fullmatch(re.escape(word) + "[0-9]+", name) for name in taken):
+def fresh(word: str, taken: Collection[str], ending: str = "") -> str:
+    """Appends hyphens to a word until it, followed by what this regular expression matches, is not one of those that are taken."""
+    while any(re.fullmatch(re.escape(word) + ending, name) for name in taken):
         word += "-"
     return word

@@ -3,7 +3,7 @@
 import unittest
 
 from ggp_tools.kif import (
-    MOST_LEVELS, KifFault, Refused, atoms, expressions, fresh, fresh_before_digits, levels, place, place_of, put, relation, spelled, starts, told,
+    DIGITS, MOST_LEVELS, KifFault, Refused, atoms, expressions, fresh, levels, place, place_of, put, relation, spelled, starts, told,
     variables,
 )
 from support import raised
@@ -97,5 +97,5 @@ class Expressions(unittest.TestCase):
     def test_a_fresh_word_is_none_of_those_that_are_taken(self):
         self.assertEqual((fresh("w", []), fresh("w", ["w", "w--"]), fresh("w", ["w", "w-"])), ("w", "w-", "w--"))
         taken = ["w1", "w-x", "w--7", "v2"]
-        self.assertEqual((fresh_before_digits("w", taken), fresh_before_digits("v", ["v", "v2x", "xv2"])), ("w-", "v"))
-        self.assertEqual(fresh_before_digits("w.", ["wx1"]), "w.")
+        self.assertEqual((fresh("w", taken, DIGITS), fresh("v", ["v", "v2x", "xv2"], DIGITS)), ("w-", "v"))
+        self.assertEqual(fresh("w.", ["wx1"], DIGITS), "w.")

@@ -73,12 +73,9 @@ class Sizes:
             return arguments, Table(self.all_terms, [self.all_terms])
         functor = functor_of(pattern)
         if (TRUE, functor) not in self.tables:
-            self.tables[TRUE, functor] = self.of_terms(functor)
+            rows, count = self.terms.get(functor, ()), max(0, functor[1] - 1)
+            self.tables[TRUE, functor] = counted([row[1:] for row in rows]) if rows and count else unknown(count)
         return pattern[1:] if functor[1] else (), self.tables[TRUE, functor]
-
-    def of_terms(self, functor: Relation) -> Table:
-        rows, arguments = self.terms.get(functor, ()), max(0, functor[1] - 1)
-        return counted([row[1:] for row in rows]) if rows and arguments else unknown(arguments)
 
     def derived(self, relation: Relation) -> Table:
         """Estimates the table of a relation from its facts and rules."""

@@ -15,7 +15,7 @@ from collections.abc import Callable, Iterable, Iterator, Mapping, Sequence
 from typing import NamedTuple
 
 from .formulas import FALSE, TRUE, Formulas
-from ggp_tools.kif import Expression, Refused, atoms, fresh_before_digits, relation
+from ggp_tools.kif import DIGITS, Expression, Refused, atoms, fresh, relation
 from ggp_tools.gdl import GAME, Rule
 
 # The numbers of the formulas of a body.
@@ -68,7 +68,7 @@ class Folded:
                     bodies.append(body)
                 self.origins[head][body][rule.sentence] += self.sentence_size(head, body)
         self.own = {head for head in self.bodies if relation(made.nodes[head][1])[0] in GAME}
-        self.word = fresh_before_digits("part", {name for rule in rules for name in atoms(rule.head)})
+        self.word = fresh("part", {name for rule in rules for name in atoms(rule.head)}, DIGITS)
         self.part_count, self.cache, self.most_work = 0, {}, math.inf
 
     def of_bodies(self, head: int, make: Callable) -> object:

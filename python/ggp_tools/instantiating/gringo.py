@@ -1,14 +1,13 @@
 """Writes programs for the grounder gringo, runs it, and reads the instances."""
 
 import math
+import os
 import re
 import resource
 import signal
 import subprocess
-import threading
 from collections import Counter
 from collections.abc import Iterable, Iterator
-from typing import TextIO
 
 from ggp_tools.kif import MOST_LEVELS, Expression, Refused, Relation, arguments_of, levels, relation, variables
 from ggp_tools.gdl import GAME, Literal, Rule
@@ -118,19 +117,20 @@ class Grounder:
 
     def instances(self) -> list[tuple[int, list[str]]]:
         """Returns the instances, each with the number of its rule and its terms."""
-        pipes = {"stdin": subprocess.PIPE, "stdout": subprocess.PIPE, "stderr": subprocess.PIPE}
-        try:
-            run = subprocess.Popen(["gringo", "--text", "--warn=none"], **pipes, text=True, preexec_fn=lambda: limit_process(self.seconds))
-        except FileNotFoundError:
-            raise Refused("gringo is not installed") from None
-        writer = threading.Thread(target=write, args=(run.stdin, self.program.text))
-        writer.start()
+        # A file in memory.
+        with open(os.memfd_create("program"), "w+") as program:
+            program.write(self.program.text)
+            program.seek(0)
+            pipes = {"stdin": program, "stdout": subprocess.PIPE, "stderr": subprocess.PIPE}
+            try:
+                run = subprocess.Popen(["gringo", "--text", "--warn=none"], **pipes, text=True, preexec_fn=lambda: limit_process(self.seconds))
+            except FileNotFoundError:
+                raise Refused("gringo is not installed") from None
         try:
             instances = list(self.read(run.stdout))
             errors, status = run.stderr.read(), run.wait()
         finally:
             run.kill()
-            writer.join()
             run.wait()
         if status == -signal.SIGXCPU:
             raise TooSlow(f"gringo took more than {self.seconds:g} s")
@@ -177,11 +177,3 @@ def limit_process(seconds: float) -> None:
         most = math.ceil(seconds)
         # At the hard limit the process would be killed without SIGXCPU, and only that signal shows the reason.
         resource.setrlimit(resource.RLIMIT_CPU, (most, most + 1))
-
-
-def write(stream: TextIO, text: str) -> None:
-    try:
-        with stream as pipe:
-            pipe.write(text)
-    except (BrokenPipeError, ValueError):
-        pass

@@ -9,7 +9,7 @@ from collections.abc import Sequence
 from operator import attrgetter
 from typing import NamedTuple
 
-from ggp_tools.kif import Expression, atoms, fresh_before_digits, put, relation, variables
+from ggp_tools.kif import DIGITS, Expression, atoms, fresh, put, relation, variables
 from ggp_tools.gdl import Literal, Relations, Rule
 
 # Longer bodies have too many parts to try all of them. Rules with fewer variables have no parts to split off.
@@ -28,7 +28,7 @@ class Part(NamedTuple):
 def split(rules: list[Rule]) -> list[Rule]:
     """Returns the rules after splitting, or the same rules if no part is worth it."""
     circular = Relations(rules).circular
-    word = fresh_before_digits("split", {name for rule in rules for name in atoms(rule.atoms())})
+    word = fresh("split", {name for rule in rules for name in atoms(rule.atoms())}, DIGITS)
     splitting = Splitting(word)
     for rule in rules:
         if relation(rule.head) in circular:
