@@ -18,7 +18,7 @@ GAME = ("role", "init", "next", "legal", "goal", "terminal")
 # A message shows at most this many characters of the relations by which one depends on another.
 MOST_OF_WAY = 400
 NO_RELATIONS = ("<=", "not", "or", "distinct", "and")
-SECRET = "is of GDL-II, games with chance or with what some can't see; here each role sees every move"
+SECRET = "belongs to GDL-II, for games with chance or hidden information; here each role sees every move"
 
 
 class Literal(NamedTuple):
@@ -140,7 +140,7 @@ def must_be_safe(rule: Rule) -> None:
     for name in variables(rule.atoms()):
         if name not in bound:
             advice = f"add a condition with {quoted(name)} that is not negated"
-            raise Refused(f"{quoted(name)} is unsafe: no sentence of the body that is not negated has it", advice=advice)
+            raise Refused(f"{quoted(name)} is unsafe: it occurs in no sentence of the body except negated ones", advice=advice)
 
 
 def parted(sentence: Expression) -> tuple[Expression, Expression]:

@@ -108,7 +108,7 @@ SPOILINGS = {
     ),
     "a log tells of another answer": (changed("cup/logs/cup-001.jsonl", lambda text: re.sub(rb'("kind":"PLAY".*?"answer":)[^,]*,', rb'\1"(take 7)",', text, count=1)), "of its log does not agree with its call log"),
     "a log tells of another player": (changed("cup/logs/cup-001.jsonl", lambda text: text.replace(b'"ann"', b'"cid"').replace(b'"bob"', b'"ann"')), " of its log does not agree with its call log"),
-    "two logs are exchanged": (swapped("cup/logs/cup-001.jsonl", "cup/logs/cup-002.jsonl"), "cup-002: line 1 of its log is not a line that is published"),
+    "two logs are exchanged": (swapped("cup/logs/cup-001.jsonl", "cup/logs/cup-002.jsonl"), "cup-002: `publish` would leave out line 1 of its log, or write it differently"),
     "the rules are others": (changed("cup/rules/countdown.kif", lambda text: text.replace(b"100", b"90")), "rules/countdown.kif is not what"),
     "a description and its sum are others": (nonsense, "games/odd.kif has no variables, and differs from the rules of odd"),
     "a description is missing": (without("cup/games/odd.kif"), "games/odd.kif is missing: it is the description of odd"),
@@ -211,7 +211,7 @@ class Archive(unittest.TestCase):
     def test_what_tar_has_packed_again_is_not_checked(self):
         for words in (["xzf", self.archive], ["czf", "again.tar.gz", "cup/competition.toml", "cup"]):
             subprocess.run(["tar", *words], cwd=self.other, check=True)
-        said = "ggp_competition: again.tar.gz: it is not packed as `publish` packs: see 'cup/competition.toml'\n"
+        said = "ggp_competition: again.tar.gz: its bytes are not those that `publish` would write: the difference is at 'cup/competition.toml'\n"
         self.assertEqual(run(self.other, "check", "again.tar.gz"), (1, "", said))
 
     def copied(self):
@@ -226,7 +226,7 @@ class Archive(unittest.TestCase):
         self.assertEqual((run(cup, "publish", "--gaps", "--to", "again.tar.gz")[0], (cup / "again.tar.gz").read_bytes()), (0, published))
         line = next(planned for planned in (cup / "schedule.tsv").read_text().splitlines() if planned.startswith("cup-003"))
         (cup / "records/cup-003.json").unlink()
-        self.assertIn("nothing is published: 1 match has no lawful record; with `--gaps` the others are\n", run(cup, "publish")[2])
+        self.assertIn("nothing is published: 1 match has no lawful record; `--gaps` publishes the others\n", run(cup, "publish")[2])
         self.assertEqual(run(cup, "publish", "--gaps")[::2], (0, ""))
         files = files_of(cup / "cup.tar.gz")
         self.assertEqual(files["cup/GAPS.tsv"].decode().splitlines()[1:], [line])
@@ -235,7 +235,7 @@ class Archive(unittest.TestCase):
         self.assertIn("cup: 11 of 12 matches", files["cup/table.txt"].decode())
         status, out, said = run(cup, "check", "cup.tar.gz")
         self.assertEqual((status, said), (0, ""))
-        self.assertIn("11 records and call logs, the table and the pages are right; 1 of 12 matches have no record, GAPS.tsv names them; published", out)
+        self.assertIn("11 records and call logs, the table and the pages are right; 1 of 12 matches have no record; GAPS.tsv lists them; published", out)
         for change, words in (
             (without(*(f"cup/{name}" for name in ("records/cup-004.json", "accounts/cup-004.txt", "logs/cup-004.jsonl"))), "GAPS.tsv does not follow from the records"),
             (changed("cup/records/cup-002.json", better), "cup-002: not lawful: goals"),
@@ -262,7 +262,7 @@ class Archive(unittest.TestCase):
 
     def test_no_two_publish_at_once(self):
         with held(self.folder):
-            said = "ggp_competition: .: another run plans, plays or publishes this competition\n"
+            said = "ggp_competition: .: another command is planning, playing or publishing this competition\n"
             self.assertEqual(run(self.folder, "publish"), (2, "", said))
 
     def test_a_description_that_is_another_one_is_not_published(self):

@@ -180,7 +180,7 @@ class Checked(Made):
             file.unlink()
         self.publish()
         faults, said = self.check()
-        self.assertEqual((faults, "; 1 of 3 matches have no record, GAPS.tsv names them; published" in said, "2 records and call logs" in said), ([], True, True))
+        self.assertEqual((faults, "; 1 of 3 matches have no record; GAPS.tsv lists them; published" in said, "2 records and call logs" in said), ([], True, True))
         files = files_of(self.path)
         self.assertEqual(files["cup/GAPS.tsv"], b"id\tgame\tstart\tplay\tplayers\ncup-002\theap\t5\t5\tbob ann\n")
         self.assertEqual(self.check(without("cup/GAPS.tsv")(dict(files)))[0], ["cup-002: it has no record", "cup-002: its log is missing"])

@@ -151,7 +151,7 @@ class BadInput(InFolder):
         for path in before:
             games.write_text(text.replace("100", "99"))
             path.unlink()
-            self.assert_refused("would change, and matches were played: put back what was changed, or use another directory\n", "plan")
+            self.assert_refused("would change, but matches have already been played: put back what was changed, or use another directory\n", "plan")
             games.write_text(text)
             self.assertEqual(run(self.folder, "plan")[::2], (0, ""))
 
@@ -206,8 +206,8 @@ class BadInput(InFolder):
         status, out, said = run(self.folder, "plan")
         self.assertEqual((status, said, [line.split(":")[0] for line in out.splitlines()]), (0, "", ["coins", "coins", "one", "schedule.tsv"]))
         self.assertEqual(out.splitlines()[1], (
-            "coins: goals above 100 are left out (1, the first by sentence 2, line 1: (<= (goal a ?x) (true (s ?x)))): if one would hold at the end, the role gets the other goal that holds there, "
-            "and if there is none the match has no goals"
+            "coins: goals above 100 are left out (1, the first by sentence 2, line 1: (<= (goal a ?x) (true (s ?x)))): if one would hold at the end, the role gets the other goal that holds there; "
+            "if there is none, the match has no goals"
         ))
 
     def test_an_instantiation_that_is_ended(self):

@@ -63,7 +63,7 @@ class LogFaults(unittest.TestCase):
         return unpublished(log.encode(), run) or fault_of_run(MATCH, ROLES, run, ACCOUNT)
 
     def assert_foreign(self, log: str, number: int) -> None:
-        self.assertRegex(self.fault(log) or "", f"^line {number} of its log is not a line that is published: ")
+        self.assertRegex(self.fault(log) or "", f"^`publish` would leave out line {number} of its log, or write it differently: ")
 
     def test_what_the_referee_has_written(self):
         self.assertIsNone(self.fault(LOG))
@@ -113,7 +113,7 @@ class LogFaults(unittest.TestCase):
     def test_no_line_is_there_twice(self):
         for at, text in enumerate(LINES):
             doubled = self.fault("".join([*LINES[: at + 1], *LINES[at:]]))
-            self.assertRegex(doubled or "", "^line [0-9]+ of its log (is|does) not ", text)
+            self.assertRegex(doubled or "", "^(`publish` would leave out )?line [0-9]+ of its log,? (does not|or write it differently)", text)
 
     def test_what_is_not_so(self):
         for old, new, number in (
@@ -176,7 +176,7 @@ class OfCompetition(unittest.TestCase):
         with open(folder.log("cup-003"), "a") as file:
             file.write("Welcome\n")
         self.assertEqual(faults_of_logs(plan, results, is_published=False), [wrong])
-        more = "cup-003: line 10 of its log is not a line that is published: Welcome"
+        more = "cup-003: `publish` would leave out line 10 of its log, or write it differently: Welcome"
         self.assertEqual(faults_of_logs(plan, results, is_published=True), [wrong, more])
 
 

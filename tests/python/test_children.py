@@ -53,7 +53,7 @@ def test_a_job_that_runs_and_is_silent_is_lost(monkeypatch):
     monkeypatch.setattr(jobs, "LOST_SECONDS", 1)
     job = ran(f"{NODE}sys.stdin.read()")
     # The process noticed the end of its input, and ended by itself.
-    assert (job.why, job.node, job.status, job.process.returncode, job.goes_on) == ("nothing was heard of it for 1 s", "n1", None, 0, False)
+    assert (job.why, job.node, job.status, job.process.returncode, job.goes_on) == ("nothing was heard from it for 1 s", "n1", None, 0, False)
 
 
 def test_a_job_that_waits_in_a_queue_may_be_silent(monkeypatch):
@@ -78,7 +78,7 @@ def test_what_a_job_says_is_told_from_what_others_say():
 def test_a_line_without_an_end_ends_the_job(monkeypatch):
     monkeypatch.setattr(jobs, "LONGEST_LINE", 100_000)
     job = ran("import sys\nwhile True: sys.stderr.write('x' * 1000)")
-    assert (job.why, job.lines) == ("a line that it said has more than 100,000 bytes", [])
+    assert (job.why, job.lines) == ("it sent a line of more than 100,000 bytes", [])
 
 
 @pytest.mark.parametrize("stream", ["stdout", "stderr"])

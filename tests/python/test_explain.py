@@ -32,7 +32,7 @@ FAULTS = [
     ({("errors", 0, 1): "IL noop"}, "notfirst 0 1", "Turn 1, role blue: the error says that noop is not legal, but it is.", "expected: no error", "found: the error IL noop"),
     ({("states", 0): []}, "state 0", "The state before turn 1 is not the first state of the rules.", "missing: (heap 3), (turn red)"),
     ({("states", 1): ["(heap 1)", "(turn blue)", "x"]}, "state 1", "The state after turn 1 is not the one that follows from the rules and the moves.", "missing: (heap 2)", "too many: (heap 1), x"),
-    ({("states", 1): ["(turn blue)", "(heap 2)"]}, "state 1", "The state after turn 1 is not the one that follows from the rules and the moves.", "Its terms are right, but not in byte order, or not each once."),
+    ({("states", 1): ["(turn blue)", "(heap 2)"]}, "state 1", "The state after turn 1 is not the one that follows from the rules and the moves.", "Its terms are right, but they are not in byte order, or some occur more than once."),
     ({("errors", 0, 1): "RT"}, "retired 0 1", "Turn 1, role blue: the role is not retired: it had errors in up to 0 turns in a row, and the strikes are 0.", "expected: another error, or none", "found: RT"),
     ({("errors", 0, 1): "CE", ("strikes",): 1}, "retired 1 1", "Turn 2, role blue: the role is retired: it had errors in up to 1 turn in a row, and the strikes are 1.", "expected: the error RT", "found: no error"),
     ({("goalValues",): [100, 0]}, "goals", "A record of the phase finished has the goals of the last state.", "expected: red 0, blue 100", "found: red 100, blue 0"),
@@ -83,7 +83,7 @@ class Faults(unittest.TestCase):
         self.assertEqual(said_of("goals", {}), ["The interpreter finds no fault", REPORT])
         self.assertEqual(said_of("goals", {("states", 0): []}), ["The interpreter finds state 0: The state before turn 1 is not the first state of the rules.", REPORT])
         for places in ({("moves",): "gone"}, {("startMarks",): 1}, {("states",): [1, 2, 3]}, {("matchId",): "gone"}):
-            self.assertEqual(said_of("goals", places), ["The interpreter finds that the record is of another shape", REPORT], places)
+            self.assertEqual(said_of("goals", places), ["The interpreter finds that the record has a different shape", REPORT], places)
 
     def test_strikes_count_in_a_row_and_from_then_on(self):
         # Five turns of a game without an end. Red errs in turns 1, 3 and 4, so with two strikes it is retired from turn 5.
@@ -135,7 +135,7 @@ class Faults(unittest.TestCase):
     def test_a_role_without_a_move_or_a_goal(self):
         for text, cause, said in (
             ("(init s) (legal red m)", "nolegal 1", "the role blue has no legal move"),
-            ("(init s) (<= terminal (true s)) (goal red 1)", "nogoal 1", "the state is terminal, and the role blue has not exactly one goal"),
+            ("(init s) (<= terminal (true s)) (goal red 1)", "nogoal 1", "the state is terminal, and the role blue does not have exactly one goal"),
         ):
             rules = Game(f"(role red) (role blue) {text}")
             ended = {("moves",): [], ("errors",): [], ("states",): [["s"]], ("goalValues",): [], ("phase",): "aborted", ("cause",): cause}

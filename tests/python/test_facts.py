@@ -288,7 +288,7 @@ class Files(WithPile):
     def test_several_matches_of_one_id_are_named(self):
         done = self.run_facts(said(BROKEN) + said({**BROKEN, "playClock": 6}), "--log", self.folder / "log")
         self.assertEqual(done.returncode, 0)
-        self.assertEqual(done.stderr, "ggp-records: nothing of a log is written of m1: several matches have this id\nggp-records: 2 lawful\n")
+        self.assertEqual(done.stderr, "ggp-records: no facts from a log are written for m1: several matches have this id\nggp-records: 2 lawful\n")
         self.assertEqual([(line["messages"], line["broken"][0]["why"]) for line in self.lines()], [(None, None)] * 2)
 
     def test_a_log_may_be_a_pipe(self):

@@ -154,7 +154,7 @@ class CompetitionFile(unittest.TestCase):
             found = mistakes_of(toml(PLAYERS, GAMES, f"kind = {kind}", 'order = "goals"').encode())
             self.assertEqual(found, [(2, "order", f"the kind {kind.split(chr(34))[1]} has its own order")])
         found = mistakes_of(toml(PLAYERS, GAMES, 'kind = "knockout"', 'withdrawn_results = "void"').encode())
-        self.assertEqual(found, [(2, "withdrawn_results", "the matches of a knockout count, since other players have lost them")])
+        self.assertEqual(found, [(2, "withdrawn_results", "a knockout can't have \"void\": the matches that a withdrawn player has won must count, since other players have lost them")])
 
     def test_what_players_are_told(self):
         found = read_competition(GOOD.replace('file = "go.kif"', 'file = "go.kif"\nplayer_rules = "variables"').encode())

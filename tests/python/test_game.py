@@ -33,7 +33,7 @@ CHANGES = [
     ]),
     ("(<= terminal", "(=> terminal", [
         "line 9, column 1: `=>` is not a GDL keyword, and the game does not use it; is `<=` meant?: (=> terminal over)",
-        "nothing gives `terminal`, so no match is finished",
+        "nothing gives `terminal`, so no match can finish",
     ]),
     ("(true (step 3)", "(treu (step 3)", [
         "line 7, column 5: no condition uses the term (step 3): (next (step 3))",
@@ -62,7 +62,7 @@ CHANGES = [
     (None, "(over 1)", ["line 11, column 1: the game does not use `(over _)`, only for `over`: (over 1)"]),
     (None, "(n 1) (<= terminal (n 2))", ["line 11, column 20: no rule and no fact gives this: (n 2)"]),
     (None, "(sees ann bob)", [
-        "line 11, column 1: `sees` is of GDL-II, games with chance or with what some can't see; here each role sees every move:"
+        "line 11, column 1: `sees` belongs to GDL-II, for games with chance or hidden information; here each role sees every move:"
         " (sees ann bob)",
     ]),
 ]

@@ -25,7 +25,7 @@ def without_round_2(files):
 GROWN = {
     "a reason is another": (changed("cup/again.tsv", lambda text: text.replace(b"power", b"cable")), "table.txt does not follow"),
     "a reason is another in the line of the match": (changed("cup/matches.jsonl", lambda text: text.replace(b"power", b"cable")), "matches.jsonl does not follow"),
-    "a match was not ordered again": (without("cup/again.tsv"), "2 matches were planned when earlier/3.toml was replaced, and not 3"),
+    "a match was not ordered again": (without("cup/again.tsv"), "earlier/3.toml was replaced after 2 planned matches, not after 3 as its name says"),
     "another match was ordered again": (changed("cup/again.tsv", lambda text: text.replace(b"\tcup-001\t", b"\tcup-002\t")), "schedule.tsv does not agree with"),
     "a match was ordered again twice": (changed("cup/again.tsv", lambda text: text + text.splitlines(keepends=True)[1]), "again.tsv is not what"),
     "a record that does not count is missing": (without("cup/records/cup-001.json"), "cup-001: it has no record"),
@@ -49,7 +49,7 @@ SWISS = {
     "the last round is taken away": (without_round_2, "GAPS.tsv is missing"),
     "there is another number of rounds": (changed("cup/competition.toml", lambda text: text.replace(b"rounds = 2", b"rounds = 3")), "GAPS.tsv is missing"),
     "there are fewer rounds": (changed("cup/competition.toml", lambda text: text.replace(b"rounds = 2", b"rounds = 1")), "schedule.tsv does not agree with"),
-    "a record of the first round is missing": (without("cup/records/cup-001.json"), "has round 2, which was paired by cup-001"),
+    "a record of the first round is missing": (without("cup/records/cup-001.json"), "has round 2, which was paired by the result of cup-001"),
     "a bye is another's": (changed("cup/table.txt", lambda text: text.replace(b"round 1; bye: cid", b"round 1; bye: bob")), "table.txt does not follow"),
     "a bye is another's on the first page": (changed("cup/pages/index.html", lambda text: text.replace(b"round 1; bye: cid", b"round 1; bye: bob")), "pages/index.html does not follow"),
     "the round of a match is another": (changed("cup/matches.jsonl", lambda text: text.replace(b'"round":2', b'"round":1', 1)), "matches.jsonl does not follow"),
@@ -127,7 +127,7 @@ class Spoilt(InArchive):
         kept = {file: file.read_bytes() for match in ("cup-003", "cup-004") for file in self.folder.glob(f"*/{match}.*")}
         for file in kept:
             file.unlink()
-        self.assertEqual(run(self.folder, "publish")[2], "ggp_competition: nothing is published: 1 of 2 rounds are not planned yet; with `--gaps` the others are\n")
+        self.assertEqual(run(self.folder, "publish")[2], "ggp_competition: nothing is published: 1 of 2 rounds are not planned yet; `--gaps` publishes without them\n")
         self.ran("publish", "--gaps")
         self.assertIn("2 records and call logs, the table and the pages are right; 1 of 2 rounds were not planned; published", self.ran("check", "cup.tar.gz")[0])
         self.assertEqual(files_of(self.folder / "cup.tar.gz")["cup/GAPS.tsv"], text.splitlines(keepends=True)[0])

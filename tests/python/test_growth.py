@@ -113,7 +113,7 @@ class Growth(unittest.TestCase):
     def test_the_number_of_matches_before_is_looked_at(self):
         with self.assertRaises(Misfit) as why:
             grown(History(((5, competition(2)),)), competition(3), ROLES, nothing_known)
-        self.assertEqual(str(why.exception), "4 matches were planned when earlier/5.toml was replaced, and not 5")
+        self.assertEqual(str(why.exception), "earlier/5.toml was replaced after 4 planned matches, not after 5 as its name says")
 
     def test_a_file_before_that_nothing_has_replaced(self):
         refuse_unchanged(History(((4, competition(2)),)), competition(3))

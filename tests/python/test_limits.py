@@ -55,7 +55,7 @@ class Faults(unittest.TestCase):
         self.assertEqual(self.refused("(goal r 1) (roles r)"), "there is no role; write (role NAME) for each role")
         self.assertEqual(self.refused(""), "there is no role; write (role NAME) for each role")
         self.assertEqual(self.refused("(role r) (<= (role s) p)"), "line 1, column 10: (role s) is not known before the game: (<= (role s) p); make it a fact")
-        secret = "the role `random` is of GDL-II, games with chance or with what some can't see; here each role sees every move"
+        secret = "the role `random` belongs to GDL-II, for games with chance or hidden information; here each role sees every move"
         why = raised(Refused, refuse_faults, [Rule(0, ("role", "random"), (Literal(True, "p"),))])
         self.assertEqual((str(why), why.sentence), (secret, 0))
 

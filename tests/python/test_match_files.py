@@ -164,7 +164,7 @@ class Kept(unittest.TestCase):
         self.assertEqual([call.args for call in synced.call_args_list], [(self.folder.path,)])
 
     def test_where_a_folder_can_not_be_held_no_other_run_is_blamed(self):
-        for fault, words in ((BlockingIOError(errno.EAGAIN, "busy"), "another run plans, plays or publishes this competition"), (OSError(errno.EBADF, "bad"), "can't be locked: bad")):
+        for fault, words in ((BlockingIOError(errno.EAGAIN, "busy"), "another command is planning, playing or publishing this competition"), (OSError(errno.EBADF, "bad"), "can't be locked: bad")):
             with mock.patch("fcntl.flock", side_effect=fault), self.assertRaises(Refused) as why, held(self.folder.path):
                 pass
             self.assertIn(words, str(why.exception))

@@ -131,7 +131,7 @@ class Printing(InFolder):
         second.write_bytes(line_of(MISSED) + b"\x1b[2J\n" + LINE[:-1])
         texts = [text_of(event) + "\n" for event in (OTHERS[0], MESSAGE, MISSED)]
         self.assertEqual(self.printed(first), (0, "".join(texts[:2]), ""))
-        self.assertEqual(self.printed(self.folder), (1, "".join(texts), "ggp-records: 1 line is not of a log\n"))
+        self.assertEqual(self.printed(self.folder), (1, "".join(texts), "ggp-records: skipped 1 line that is not an event of a log\n"))
         self.assertEqual(self.printed(first, second)[1], "".join(texts))
         status, printed, said = self.printed(self.folder / "3")
         self.assertEqual((status, printed), (3, ""), said)

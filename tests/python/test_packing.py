@@ -137,13 +137,13 @@ class Packing(InFolder):
             *((f"the kind {kind}", block("cup/a", kind)) for kind in (tarfile.AREGTYPE, tarfile.DIRTYPE, tarfile.SYMTYPE, tarfile.LNKTYPE, tarfile.CONTTYPE, tarfile.FIFOTYPE)),
         ):
             with self.subTest(what):
-                self.assertRegex(unpacked(HEAD + data + END), "^(it can't be unpacked: |it is not packed as `publish` packs: see )")
+                self.assertRegex(unpacked(HEAD + data + END), "^(it can't be unpacked: |its bytes are not those that `publish` would write: the difference is )")
 
     def test_one_that_is_cut_off_is_refused(self):
         tar = tar_of({**FIRST, "cup/a": b"a" * 700})
         end = len(tar.rstrip(b"\0"))
         for length in (0, 100, 512, 600, 1_100, end, end // 512 * 512 + 512, end // 512 * 512 + 1_024):
-            self.assertRegex(unpacked(tar[:length]), "it can't be unpacked: it ends too early|it is not packed as `publish` packs: see its end")
+            self.assertRegex(unpacked(tar[:length]), "it can't be unpacked: it ends too early|its bytes are not those that `publish` would write: the difference is at its end")
         path = self.folder / "a.tar.gz"
         for data in (b"", b"x", gzip.compress(b"x" * 512), gzip.compress(tar)[:-20]):
             path.write_bytes(data)
@@ -158,9 +158,9 @@ class Packing(InFolder):
         for name in ("cup", "/cup/a", *(f"cup/{name}" for name in wrong), f"cup/records/{'a' * 256}"):
             self.assertEqual(unpacked(tar_of({**FIRST, name: b"1"})), f"{name!r} is not a file of a competition")
         self.assertEqual(unpacked(tar_of({**FIRST, "cap/a": b"1"})), "'cap/a' is not below cup")
-        self.assertEqual(unpacked(tar_of([*FIRST.items(), ("cup/a", b""), ("cup/a", b"")])), "cup/a is there twice, or below a file")
-        self.assertEqual(unpacked(tar_of({**FIRST, "cup/pages/games": b"1", "cup/pages/games/a": b"1"})), "cup/pages/games/a is there twice, or below a file")
-        self.assertEqual(unpacked(tar_of({**FIRST, "cup/pages/games/a": b"1", "cup/pages/games": b"1"})), "cup/pages/games is there twice, or below a file")
+        self.assertEqual(unpacked(tar_of([*FIRST.items(), ("cup/a", b""), ("cup/a", b"")])), "it contains cup/a twice, or has a file where a directory of cup/a must be")
+        self.assertEqual(unpacked(tar_of({**FIRST, "cup/pages/games": b"1", "cup/pages/games/a": b"1"})), "it contains cup/pages/games/a twice, or has a file where a directory of cup/pages/games/a must be")
+        self.assertEqual(unpacked(tar_of({**FIRST, "cup/pages/games/a": b"1", "cup/pages/games": b"1"})), "it contains cup/pages/games twice, or has a file where a directory of cup/pages/games must be")
 
     def test_the_first_files_say_how_many_there_are(self):
         said = "it does not begin with competition.toml and schedule.tsv"

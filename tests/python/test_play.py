@@ -363,7 +363,7 @@ class Play(InFolder):
 
     def test_two_runs_in_one_folder(self):
         playing = self.held_up()
-        self.assertEqual(run(self.folder, "play"), (2, "", "ggp_competition: .: another run plans, plays or publishes this competition\n"))
+        self.assertEqual(run(self.folder, "play"), (2, "", "ggp_competition: .: another command is planning, playing or publishing this competition\n"))
         (self.folder / "go").touch()
         playing.communicate(timeout=600)
         self.assertEqual(playing.returncode, 0)
@@ -373,7 +373,7 @@ class Play(InFolder):
         file, before = self.folder / "competition.toml", (self.folder / "schedule.tsv").read_bytes()
         text = file.read_text()
         file.write_text(text.replace("play = 5", "play = 6"))
-        self.assertEqual(run(self.folder, "plan"), (2, "", "ggp_competition: .: another run plans, plays or publishes this competition\n"))
+        self.assertEqual(run(self.folder, "plan"), (2, "", "ggp_competition: .: another command is planning, playing or publishing this competition\n"))
         file.write_text(text)
         (self.folder / "go").touch()
         playing.communicate(timeout=600)
@@ -591,7 +591,7 @@ class Play(InFolder):
         run(self.folder, "play")
         before = self.files()
         (self.folder / "logs/cup-001.jsonl").unlink()
-        said = "ggp_competition: cup-001 counts without its times: its log is missing\n"
+        said = "ggp_competition: cup-001 counts, but without times, because its log is missing\n"
         self.assertEqual(run(self.folder, "play"), (0, "2 of 2 matches have a lawful record\n", said))
         found = json.loads((self.folder / "matches.jsonl").read_text().splitlines()[0])
         self.assertEqual((found["begin"], found["messages"]), (None, [[], []]))

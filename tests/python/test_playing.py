@@ -391,7 +391,7 @@ class Before(WithMatches):
         self.looked = ({match.id: "its result" for match in self.plan.matches[3:]}, {"cup-001": "not lawful: goals"}, {})
         with self.assertRaises(Refused) as why:
             playing.prepare(self.playing)
-        self.assertIn("cup-001 has no record that counts, and a later round was paired by it", str(why.exception))
+        self.assertIn("a later round was paired by the result of cup-001, which no longer has a record that counts", str(why.exception))
         # Until this is corrected, no file is renamed, no message is sent, and no match waits.
         self.assertEqual([file.name for kind in (folder.records, folder.accounts) for file in kind.iterdir()], ["cup-001.json", "cup-002.txt"])
         self.assertEqual((room.exists(), self.aborted, list(self.playing.waiting)), (True, [], []))

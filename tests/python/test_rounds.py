@@ -161,7 +161,7 @@ class ByRounds(unittest.TestCase):
         first.write_text(right)
         self.folder.record("cup-003").write_text(json.dumps(record(plan.matches[2], [0, 100])) + "\n")
         first.unlink()
-        lost = "schedule.tsv has round 2, which was paired by cup-001, and that has no record of this match"
+        lost = "schedule.tsv has round 2, which was paired by the result of cup-001, but the record of cup-001 is missing"
         self.assert_refused(lost)
         # As long as none of its matches has a record, the round may be planned again.
         self.make()
@@ -171,14 +171,14 @@ class ByRounds(unittest.TestCase):
         self.play(plan)
         first.unlink()
         self.assert_refused(lost)
-        self.assert_refused("schedule.tsv would change, and matches were played", self.make)
+        self.assert_refused("schedule.tsv would change, but matches have already been played", self.make)
         first.write_text(before)
         plan = self.read()
         self.assertEqual(len(plan.matches), 8)
         results = self.play(plan)
         refuse_lost_results(plan, results)
         refuse_lost_results(plan, {match: found for match, found in results.items() if match != "cup-007"})
-        self.assert_refused("cup-002 has no record that counts, and a later round was paired by it", lambda: refuse_lost_results(plan, {match: found for match, found in results.items() if match != "cup-002"}))
+        self.assert_refused("a later round was paired by the result of cup-002, which no longer has a record that counts", lambda: refuse_lost_results(plan, {match: found for match, found in results.items() if match != "cup-002"}))
 
     def test_it_grows(self):
         self.write(4, SWISS.format(1))
@@ -331,7 +331,7 @@ class ByRounds(unittest.TestCase):
             self.assertEqual([match.id for match in plan_next_round(plan, results)], ["cup-006", "cup-007", "cup-008", "cup-009"])
             refuse_lost_results(plan, results)
             self.assertEqual(self.read().matches, plan.matches)
-            self.assert_refused("cup-002 is of round 1, and the next one was paired by its results, so it can't be played again", lambda: order_again(self.folder.path, REFEREE, "cup-002", "x"))
+            self.assert_refused("cup-002 can't be played again: it is in round 1, and the next round was paired by the results of that round", lambda: order_again(self.folder.path, REFEREE, "cup-002", "x"))
 
     def test_ids_that_nobody_guesses(self):
         self.write(4, SWISS.format(2), 'ids = "random"')

@@ -149,7 +149,7 @@ class Rules(InArchive):
         (self.folder / "cup.tar.gz").write_bytes((self.folder / "last.tar.gz").read_bytes())
         assert_spoilt(self, files_of(self.folder / "cup.tar.gz"), {"the seeds are others": (changed("last/seeds.csv", lambda text: text.replace(order[0].encode(), b"x")), "schedule.tsv does not agree with")})
         self.assertEqual(self.ran("table", first, ".")[0], "cup + last: 12 of 12 matches")
-        self.assertIn("two of the directories have a competition with the name cup", self.refused("table", first, first))
+        self.assertIn("two of the directories have a competition named cup; a joint table needs different names", self.refused("table", first, first))
 
     def test_a_first_file_by_options_and_by_questions(self):
         self.new_folder()

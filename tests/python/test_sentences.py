@@ -120,7 +120,7 @@ class Refusals(unittest.TestCase):
             ("(<= p (distinct a))", "(distinct a) is not a sentence", "write (distinct _ _)"), ("(<= p (not))", "(not) is not a sentence", "write (not _)"),
             ("(true p)", "(true p) is a head", "`next` and `init` say what is true in a state"), ("(does r m)", "(does r m) is a head", "`legal` says which moves there are"),
             ("(<= p (next a))", "(next a) is in a body", "ask for what is true in the state by `true`"), ("(p ())", "() is not a term", ""),
-            ("(p ?x)", "?x is unsafe: no sentence of the body that is not negated has it", "add a condition with ?x that is not negated"),
+            ("(p ?x)", "?x is unsafe: it occurs in no sentence of the body except negated ones", "add a condition with ?x that is not negated"),
         ):
             self.assertEqual(self.assert_refused(text, words), advice)
 
@@ -129,13 +129,13 @@ class Refusals(unittest.TestCase):
         self.assertEqual(rules("(<= p)"), [("p", ())])
 
     def test_a_game_of_chance_or_of_what_some_can_not_see(self):
-        secret = "is of GDL-II, games with chance or with what some can't see; here each role sees every move"
+        secret = "belongs to GDL-II, for games with chance or hidden information; here each role sees every move"
         self.assert_refused("(role random)", f"the role `random` {secret}")
         for text in ("(sees r a)", "(sees r a b)", "(<= (sees r a) p)"):
             self.assert_refused(text, f"`sees` {secret}")
 
     def test_a_variable_that_nothing_binds(self):
-        unsafe = "is unsafe: no sentence of the body that is not negated has it"
+        unsafe = "is unsafe: it occurs in no sentence of the body except negated ones"
         self.assert_refused("(p ?x)", f"?x {unsafe}")
         self.assert_refused("(<= p (not (q ?x)))", f"?x {unsafe}")
         self.assert_refused("(<= p (not (distinct ?x a)))", f"?x {unsafe}")

@@ -116,7 +116,7 @@ class Told(InFolder):
         self.assertEqual((status, said), (1, ""), out)
         wrongly = [planned[0] for planned in self.schedule if planned[1] == "nim"]
         # The next match may have begun while the first one was being checked.
-        stopped = next(line for line in out.splitlines() if line.startswith("stopped nim is not played any more, because "))
+        stopped = next(line for line in out.splitlines() if line.startswith("stopped nim, because "))
         first = next(match for match in wrongly if match in stopped)
         words = f"no record {first}: by the description of nim it differs: "
         self.assertIn(words, out)

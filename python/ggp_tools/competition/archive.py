@@ -282,7 +282,7 @@ def what_is_right(path: pathlib.Path, empty: pathlib.Path, referee: Referee) -> 
     refuse(faults)
     refuse(faults_of_files(plan, referee, results))
     missing, left = len(without_record(plan, results)), rounds_left(plan)
-    gaps = f"; {missing} of {len(plan.matches)} matches have no record, {GAPS} names them" if missing else ""
+    gaps = f"; {missing} of {len(plan.matches)} matches have no record; {GAPS} lists them" if missing else ""
     gaps += f"; {left} of {left + len(plan.rounds)} rounds were not planned" if left else ""
     right = f"the checksums, the schedule, {counted(len(results), 'record')} and call log{'s' * (len(results) != 1)}, the table and the pages are right{gaps}"
     return f"{right}{compared}; published with {made_by}, checked by {referee.version()}"

@@ -163,7 +163,7 @@ def unpublished(log: bytes, run: Sequence[Event]) -> str | None:
     lines = itertools.zip_longest(io.BytesIO(log), map(line_of, run), fillvalue=b"")
     number, line = next(((number, given) for number, (given, kept) in enumerate(lines, 1) if given != kept), (0, b""))
     text = message_of(line.decode("ascii", "replace").rstrip())
-    return f"line {number} of its log is not a line that is published: {text}" if number else None
+    return f"`publish` would leave out line {number} of its log, or write it differently: {text}" if number else None
 
 
 def has_sound_reason(message: Message) -> bool:

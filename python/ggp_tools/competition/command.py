@@ -101,9 +101,10 @@ def write_matches(plan: Plan, results: list[Result]) -> None:
     """Writes matches.jsonl. Reports which matches have no log, and therefore no times."""
     lacking = [result.match.id for result in results if not plan.folder.has_log(result.match.id)]
     if lacking[1:]:
-        print(f"ggp_competition: {len(lacking):,} matches count without their times, {lacking[0]} to {lacking[-1]}: their logs are missing", file=sys.stderr)
+        span = f"{len(lacking):,} matches from {lacking[0]} to {lacking[-1]}"
+        print(f"ggp_competition: {span} count, but without times, because their logs are missing", file=sys.stderr)
     elif lacking:
-        print(f"ggp_competition: {lacking[0]} counts without its times: its log is missing", file=sys.stderr)
+        print(f"ggp_competition: {lacking[0]} counts, but without times, because its log is missing", file=sys.stderr)
     write_whole(plan.folder.matches, matches_text(plan, results))
 
 
@@ -316,11 +317,11 @@ def publish_planned(asked: argparse.Namespace, referee: Referee) -> int:
     faults = []
     if missing and (is_faulty or not asked.gaps):
         # A wrong record is not a gap: the match must be played again, or the record corrected.
-        faults = [f"{counted(missing, 'match', 'has', 'have')} no lawful record{'' if is_faulty else '; with `--gaps` the others are'}"]
+        faults = [f"{counted(missing, 'match', 'has', 'have')} no lawful record{'' if is_faulty else '; `--gaps` publishes the others'}"]
     elif left and not asked.gaps:
-        faults = [f"{left} of {left + len(plan.rounds)} rounds are not planned yet; with `--gaps` the others are"]
+        faults = [f"{left} of {left + len(plan.rounds)} rounds are not planned yet; `--gaps` publishes without them"]
     faults = faults or list(faults_of_descriptions(plan, plan.folder.description, f", and {WRITES}"))
-    faults = faults or [f"{fault}: without the log the match counts too" for fault in faults_of_logs(plan, results, is_published=False)]
+    faults = faults or [f"{fault}; the match also counts without its log" for fault in faults_of_logs(plan, results, is_published=False)]
     if not faults:
         write_matches(plan, results)
         try:

@@ -518,7 +518,8 @@ def read_competition(data: bytes) -> Competition:
         if key in root.table:
             root.mistake(key, f"only the kinds {' and '.join(ROUND_KINDS)} have this key")
     if kind == KNOCKOUT and found.withdrawn_results == VOID:
-        root.mistake("withdrawn_results", "the matches of a knockout count, since other players have lost them")
+        why = "the matches that a withdrawn player has won must count, since other players have lost them"
+        root.mistake("withdrawn_results", f'a knockout can\'t have "void": {why}')
     if mistakes:
         raise Mistaken(sorted(mistakes, key=lambda mistake: mistake.line))
     return found

@@ -55,7 +55,7 @@ def held(path: pathlib.Path) -> Iterator[None]:
         try:
             fcntl.flock(descriptor, fcntl.LOCK_EX | fcntl.LOCK_NB)
         except BlockingIOError:
-            raise Refused(f"{path}: another run plans, plays or publishes this competition") from None
+            raise Refused(f"{path}: another command is planning, playing or publishing this competition") from None
         except OSError as why:
             # Some network file systems have no locks, so another run would not be noticed.
             raise Refused(f"{path} can't be locked: {why.strerror}") from None

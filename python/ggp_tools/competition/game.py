@@ -48,7 +48,8 @@ def add_game(commands: Any) -> argparse.ArgumentParser:
     command.add_argument("--large", action="store_true", help="use the limits for large games at once")
     seconds = whole(1, MOST_SECONDS)
     command.add_argument("--matches", type=whole(0, MOST_MATCHES), default=20, metavar="N", help="play N random matches (20)")
-    command.add_argument("--seed", type=whole(0, MOST_SEED), default=1, metavar="S", help="the seed of the first match; each further one has the next (1)")
+    text = "the seed of the first match (1); each later match uses the next number"
+    command.add_argument("--seed", type=whole(0, MOST_SEED), default=1, metavar="S", help=text)
     text = "the processor time for making a description with variables ground (60)"
     command.add_argument("--instantiate", type=seconds, default=INSTANTIATING, metavar="T", help=text)
     text = "search for T seconds at most, and begin no turn after T seconds of matches (60)"

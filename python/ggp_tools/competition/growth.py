@@ -214,7 +214,8 @@ class Growing:
                 raise Misfit(f"{order.match} replaces {order.instead_of}, which is not a match that counts")
             old = self.matches[at]
             if old.round < len(self.rounds.found):
-                raise Misfit(f"{old.id} is of round {old.round}, and the next one was paired by its results, so it can't be played again")
+                why = f"it is in round {old.round}, and the next round was paired by the results of that round"
+                raise Misfit(f"{old.id} can't be played again: {why}")
             self.matches[at] = replace(old, again=order.match, reason=order.reason)
             self.add(replace(old, id=order.match, instead_of=old.id))
 
@@ -227,7 +228,8 @@ def grown(history: History, competition: Competition, roles: Mapping[str, int], 
             refuse_changes(before, version)
         growing.take(before, version, until, most if until is None else until)
         if until is not None and len(growing.matches) != until:
-            raise Misfit(f"{counted(len(growing.matches), 'match', 'was', 'were')} planned when earlier/{until}.toml was replaced, and not {until}")
+            planned = counted(len(growing.matches), "planned match")
+            raise Misfit(f"earlier/{until}.toml was replaced after {planned}, not after {until} as its name says")
         before = version
     growing.leave_out(competition)
     if growing.again:

@@ -11,8 +11,13 @@ from ggp_tools.competition.files import Folder, Refused, write_whole
 # This directory exists in the repository and in an archive of the program.
 PARENTS = pathlib.Path(__file__).resolve().parents
 EXAMPLES = next((place for parent in PARENTS if (place := parent / "examples/games").is_dir()), pathlib.Path("examples/games"))
-# The forms, each with the argument of its option.
-FORMS = {"round-robin": "ROUNDS", "swiss": "ROUNDS", "gauntlet": "PLAYER", "knockout": None}
+# The options for the forms: the argument, and the help.
+FORMS = {
+    "round-robin": ("ROUNDS", "each pair of players meets ROUNDS times, each time in both orders of the roles"),
+    "swiss": ("ROUNDS", "a Swiss competition of this many rounds"),
+    "gauntlet": ("PLAYER", "PLAYER plays against all others"),
+    "knockout": (None, "a knockout"),
+}
 TEMPLATE = """# docs/COMPETITION.md explains all keys.
 name = "{name}"
 start = {start}        # seconds for START, in which a player reads the rules
@@ -55,9 +60,9 @@ def add_init(command: argparse.ArgumentParser) -> None:
     command.add_argument("--name", metavar="NAME", help="the name of the competition (default: that of the directory)")
     command.add_argument("--games", metavar="A,B,..", help="names of games in examples/games, or paths of descriptions")
     forms = command.add_mutually_exclusive_group()
-    for form, word in FORMS.items():
+    for form, (word, text) in FORMS.items():
         value = {"metavar": word, "type": lambda more, form=form: (form, more)} if word else {"action": "store_const", "const": (form, "")}
-        forms.add_argument(f"--{form}", dest="form", help=f"the form is a {form.replace('-', ' ')}", **value)
+        forms.add_argument(f"--{form}", dest="form", help=text, **value)
     command.add_argument("--final", metavar="N", help="after a Swiss competition the best N players play a knockout")
     command.add_argument("--players", metavar="NAME=HOST:PORT,..", help="the players (none: add them to the file)")
     command.add_argument("--start", metavar="S", default="10", help="seconds for START (10)")

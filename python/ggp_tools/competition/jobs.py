@@ -12,7 +12,7 @@ from ggp_tools.competition.job import BEAT, OURS
 from ggp_tools.match_log import LONGEST_LINE
 from ggp_tools.printable import printable
 
-SILENT, LONG = "nothing was heard of it for {:.0f} s", "a line that it said has more than {:,} bytes"
+SILENT, LONG = "nothing was heard from it for {:.0f} s", "it sent a line of more than {:,} bytes"
 # The output of a job is read for at most this many seconds after its end, because a process that it left behind may keep the pipe open.
 MOST_UNREAD = 2
 # A job has END_SECONDS to end its processes. It counts as lost if it sends nothing for LOST_SECONDS.

@@ -84,7 +84,7 @@ class LiveBoard:
         self.begin()
 
     def begin(self) -> None:
-        """Begins with the first state, at first and when the match begins again on another host."""
+        """Sets the board to the first state, both at creation and whenever the match is restarted on another host."""
         self.position, self.trouble, self.is_stuck = Position(owing=frozenset(range(len(self.match.players)))), "", False
         # The answers that are not recorded yet, by round and role. Then why players did not answer, by turn and role.
         self.answers: dict[int, Answers] = {}

@@ -36,7 +36,7 @@ FIRST = "competition.toml", "schedule.tsv"
 OF_MATCH, OTHER_FILES = re.compile(r"[^/]*/(?:records/(.+)\.json|accounts/(.+)\.txt|logs/(.+)\.jsonl|pages/matches/(.+)\.html)"), 10_000
 # Higher levels take much longer, and save little.
 LEVEL = 6
-OTHERWISE = "it is not packed as `publish` packs"
+OTHERWISE = "its bytes are not those that `publish` would write: the difference is"
 
 
 class Spoilt(Refused):
@@ -90,11 +90,11 @@ def members(stream: BinaryIO) -> Iterator[tuple[str, int]]:
             raise Spoilt(f"it can't be unpacked: {why}") from None
         name = long_name[1].decode("latin-1") if long_name else member.name
         if head != header(name, member.size).tobuf():
-            raise Spoilt(f"{OTHERWISE}: see {name!r}")
+            raise Spoilt(f"{OTHERWISE} at {name!r}")
         yield name, member.size
     rest = stream.read(tarfile.RECORDSIZE + 1)
     if any(rest) or not tarfile.BLOCKSIZE <= len(rest) <= tarfile.RECORDSIZE:
-        raise Spoilt(f"{OTHERWISE}: see its end")
+        raise Spoilt(f"{OTHERWISE} at its end")
 
 
 def copy(stream: BinaryIO, size: int, path: pathlib.Path) -> None:
@@ -105,9 +105,9 @@ def copy(stream: BinaryIO, size: int, path: pathlib.Path) -> None:
             for left in range(size, 0, -AT_ONCE):
                 file.write(read_all(stream, min(left, AT_ONCE)))
     except (FileExistsError, NotADirectoryError):
-        raise Spoilt(f"{path} is there twice, or below a file") from None
+        raise Spoilt(f"it contains {path} twice, or has a file where a directory of {path} must be") from None
     if any(read_all(stream, -size % tarfile.BLOCKSIZE)):
-        raise Spoilt(f"{OTHERWISE}: see what is after {path}")
+        raise Spoilt(f"{OTHERWISE} after {path}")
 
 
 def planned_ids(schedule: pathlib.Path) -> set[str | None]:

@@ -292,7 +292,7 @@ def write_plan(folder: Folder, is_begun: bool, files: dict[Path, bytes]) -> None
     """Writes the files of a plan. Once matches have been played, they may only grow; missing ones are written again."""
     for file, data in files.items():
         if is_begun and file.exists() and not grows(folder, file, read_file(file), data):
-            raise Refused(f"{file} would change, and matches were played", "put back what was changed, or use another directory")
+            raise Refused(f"{file} would change, but matches have already been played", "put back what was changed, or use another directory")
     try:
         folder.make(folder.rules, *([folder.earlier] if any(file.parent == folder.earlier for file in files) else []))
         # The schedule is last, so that it never exists without its rules.
@@ -383,8 +383,8 @@ def refuse_lost_record(folder: Folder, growing: Growing, schedule: bytes) -> Non
     number = len(growing.rounds.found)
     lost = [match.id for match in growing.of_round(number) if match.counts() and growing.result_of(match) is None]
     if lost and schedule.startswith(schedule_text(growing.matches)):
-        fault = f"{folder.schedule} has round {number + 1}, which was paired by {lost[0]}, and that has no record of this match"
-        raise Refused(fault, f"put it back; if no match of a later round has a record, {WRITES} without these rounds")
+        fault = f"{folder.schedule} has round {number + 1}, which was paired by the result of {lost[0]}, but the record of {lost[0]} is missing"
+        raise Refused(fault, f"put the record back; if no match of a later round has a record, {WRITES} without these rounds")
 
 
 def refuse_lost_results(plan: Plan, results: Mapping[str, Result]) -> None:
@@ -392,7 +392,8 @@ def refuse_lost_results(plan: Plan, results: Mapping[str, Result]) -> None:
     last = len(plan.rounds)
     lost = [match.id for match in plan.matches if match.round < last and match.counts() and match.id not in results]
     if last and lost:
-        raise Refused(f"{lost[0]} has no record that counts, and a later round was paired by it", "put its record, call log and match log back")
+        fault = f"a later round was paired by the result of {lost[0]}, which no longer has a record that counts"
+        raise Refused(fault, "put its record, call log and match log back")
 
 
 # ---- rounds, and matches that are played again
@@ -440,7 +441,7 @@ def replaceable_match(plan: Plan, referee: Referee, match_id: str) -> Match:
     if match.withdrawn:
         raise Refused(f"{match_id} does not count: {match.withdrawn}")
     if match.round < len(plan.rounds):
-        raise Refused(f"{match_id} is of round {match.round}, and the next one was paired by its results, so it can't be played again")
+        raise Refused(f"{match_id} can't be played again: it is in round {match.round}, and the next round was paired by the results of that round")
     if not plan.folder.record(match_id).exists():
         raise Refused(f"{match_id} has no record, so `ggp_competition play` plays it")
     (check,) = checks(plan, referee, match.game, [match])

@@ -111,7 +111,8 @@ class Playing:
         others = [waiting for waiting in self.waiting if waiting.game == match.game]
         self.left.update((other.id, self.stopped[match.game]) for other in others)
         self.waiting = deque(waiting for waiting in self.waiting if waiting.game != match.game)
-        self.reporter.line(f"stopped {self.stopped[match.game]}; {counted(len(others), 'match')} of it {'does' if len(others) == 1 else 'do'} not begin")
+        waiting = f"{counted(len(others), 'waiting match')} of it will not begin"
+        self.reporter.line(f"stopped {match.game}, because {match.id} does not follow its description; {waiting}")
 
     async def go(self) -> None:
         """Plays until no match is open, and either none waits or no more may begin."""

@@ -56,9 +56,9 @@ def add_serve(command: argparse.ArgumentParser) -> None:
     command.add_argument("--connections", type=whole(1, MOST_CONNECTIONS), default=256, metavar="N", help=text)
     text = "show everything this many seconds late (0)"
     command.add_argument("--delay", type=whole(0, MOST_DELAY), default=0, metavar="SECONDS", help=text)
-    text = "also answer requests for this host name, for example of a proxy; can be given several times"
+    text = "also answer requests for this host name, for example that of a proxy; can be given several times"
     command.add_argument("--host", type=HOST, action="append", default=[], metavar="NAME", help=text)
-    command.add_argument("--base-path", type=BASE, default="", metavar="PATH", help="the path under which a proxy has the pages, such as /cup")
+    command.add_argument("--base-path", type=BASE, default="", metavar="PATH", help="the path under which a proxy serves the pages, such as /cup")
     text = "let pages of this origin, such as https://club.example, show these pages in a frame; can be given several times"
     command.add_argument("--embed", type=origin, action="append", default=[], metavar="ORIGIN", help=text)
 

@@ -218,11 +218,11 @@ def joined(plans: Sequence[Plan]) -> Plan:
     first, competitions, rules = plans[0].competition, [plan.competition for plan in plans], {}
     names = [competition.name for competition in competitions]
     if twice := [name for name in names if names.count(name) > 1]:
-        raise Refused(f"two of the directories have a competition with the name {twice[0]}: one table needs different ones")
+        raise Refused(f"two of the directories have a competition named {twice[0]}; a joint table needs different names")
     for plan in plans:
         for name, ground in plan.rules.items():
             if rules.setdefault(name, ground).sum != ground.sum:
-                raise Refused(f"{name} has other rules in {plan.folder.path} than in an earlier directory")
+                raise Refused(f"the rules of {name} in {plan.folder.path} differ from those in an earlier directory")
     anchor = {name: rating for competition in competitions[::-1] for name, rating in competition.anchor.items()}
     # The table explains forfeits if they are the same in all competitions.
     has_same_forfeits = len({(competition.forfeit, competition.faults) for competition in competitions}) == 1

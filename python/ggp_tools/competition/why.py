@@ -22,7 +22,7 @@ TIMED = re.compile(rf"({MOMENT}) (.*)")
 # The beginnings of the journal's rows about a match and about its round. Players, games and matches may have the same names.
 ROWS = (
     "(?:begin|end|no record|back|silent|info|abort|no answer to abort|lost|refused|aside|missing|start|restart|died|down) {match}[ :]"
-    r"|stopped \S+ is not played any more, because {match} |round {round} of "
+    r"|stopped \S+, because {match} |round {round} of "
 )
 # The first words of rows that are about one player.
 OF_PLAYER = "info", "abort", "start", "restart", "died", "down"

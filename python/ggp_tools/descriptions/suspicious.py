@@ -382,7 +382,7 @@ class Search:
                     part = next((self.parts[head][0] for head in self.heads.like(atom)), None)
                     yield Finding(part, f"nothing gives the role {quoted(atom[1], MOST_SHOWN)} a `{name}`", ("lacks", name, atom))
         if not self.known.may_give("terminal"):
-            yield Finding(None, "nothing gives `terminal`, so no match is finished", ("terminal",))
+            yield Finding(None, "nothing gives `terminal`, so no match can finish", ("terminal",))
 
 
 class Suspicions(NamedTuple):

@@ -22,7 +22,7 @@ GOAL = re.compile(r"0|[1-9][0-9]?|100")
 PAST_GOAL = re.compile(r"[1-9][0-9]{2,}")
 # Derived terms of a state become `true`, and derived moves become `does`.
 TURNED = {("next", 1): ("true", 1), ("init", 1): ("true", 1), ("legal", 2): ("does", 2)}
-WITHOUT_HIGH_GOALS = "if one would hold at the end, the role gets the other goal that holds there, and if there is none the match has no goals"
+WITHOUT_HIGH_GOALS = "if one would hold at the end, the role gets the other goal that holds there; if there is none, the match has no goals"
 
 
 def without_high_goals(rules: list[Rule]) -> tuple[list[Rule], int]:

@@ -132,7 +132,7 @@ def arguments(words: list[str]) -> argparse.Namespace:
 def report_others(count: int) -> None:
     """Reports how many lines of logs are not events."""
     if count:
-        report(f"{COMMAND}: {counted(count, 'line', 'is', 'are')} not of a log")
+        report(f"{COMMAND}: skipped {counted(count, 'line')} that {'is not an event' if count == 1 else 'are not events'} of a log")
 
 
 def print_log(paths: list[str]) -> int:
@@ -180,7 +180,7 @@ def perform(given: argparse.Namespace) -> int:
         case "facts":
             write_facts(given.output, lawful_ones(lines), facts)
             for match_id, why in facts.faults.items():
-                report(f"{COMMAND}: nothing of a log is written of {match_id}: {why}")
+                report(f"{COMMAND}: no facts from a log are written for {match_id}: {why}")
     report(f"{COMMAND}: {count_words(counts, pile.skipped)}")
     return 0 if counts.keys() <= {LAWFUL} else 1
 

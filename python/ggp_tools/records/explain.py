@@ -50,7 +50,7 @@ def end_words(phase: str, cause: str | None, names: Sequence[str]) -> str:
 
 WHY = {
     None: "the state is terminal",
-    "nogoal": "the state is terminal, and the role {} has not exactly one goal",
+    "nogoal": "the state is terminal, and the role {} does not have exactly one goal",
     "nolegal": "the role {} has no legal move",
     "toolong": "10,000 turns were played",
     "allretired": "all roles are retired",
@@ -107,7 +107,8 @@ class Replay(Match):
             return None
         recorded, expected = set(terms), set(wanted)
         sides = ("missing", [term for term in wanted if term not in recorded]), ("too many", [term for term in terms if term not in expected])
-        lines = [f"{label}: {listed(listed_terms)}" for label, listed_terms in sides if listed_terms] or ["Its terms are right, but not in byte order, or not each once."]
+        lines = [f"{label}: {listed(listed_terms)}" for label, listed_terms in sides if listed_terms]
+        lines = lines or ["Its terms are right, but they are not in byte order, or some occur more than once."]
         where = f"after turn {turn} is not the one that follows from the rules and the moves" if turn else "before turn 1 is not the first state of the rules"
         return (f"state {turn}", f"The state {where}.", *lines)
 
@@ -181,7 +182,7 @@ def explanation(word: str, game: Game, data: bytes) -> list[str]:
     except RecursionError:
         return ["There is no explanation: the rules are nested too deeply for the interpreter."]
     except (AttributeError, IndexError, KeyError, TypeError, ValueError):
-        fault = ("that the record is of another shape",)
+        fault = ("that the record has a different shape",)
     if fault and fault[0] == word:
         return fault[1:]
     return [f"The interpreter finds {': '.join(fault[:2]) if fault else 'no fault'}", "One of the two is wrong: please report this, with the record and the rules."]

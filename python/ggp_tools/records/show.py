@@ -52,7 +52,7 @@ PHASES = {
 CAUSES = {
     "asked": "an abort was asked for",
     "nolegal": "{} has no legal move",
-    "nogoal": "{} has not exactly one goal at the end",
+    "nogoal": "{} does not have exactly one goal at the end",
     "toolong": "10,000 turns were played",
     "allretired": "all roles are retired",
 }

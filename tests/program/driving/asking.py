@@ -121,8 +121,8 @@ def read_to_close(end, look=lambda said: None):
 
 
 def asked_in_terminal(program, words, stream="stderr", text=b"", look=lambda said: None):
-    """Returns the exit status, and the outputs of the standard stream that is a terminal and of the other one. A function can inspect the terminal's
-    output while it arrives."""
+    """Returns the exit status, the output of the standard stream that is a terminal, and the output of the other stream. A function can inspect the
+    terminal's output while it arrives."""
     other = "stdout" if stream == "stderr" else "stderr"
     ours, theirs = pty.openpty()
     with tempfile.TemporaryFile() as given, tempfile.TemporaryFile() as kept:
