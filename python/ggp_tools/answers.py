@@ -25,7 +25,7 @@ def no_expression(answer: str) -> str:
     try:
         parsed = expressions(answer)
         if not parsed:
-            return "it has no expression" if answer else "it is empty"
+            return "it contains no expression" if answer else "it is empty"
         if len(parsed) > 1:
             return f"a second expression begins at column {starts(answer)[1] + 1}"
     except KifFault as fault:

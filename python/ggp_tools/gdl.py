@@ -90,9 +90,9 @@ def must_be_atomic(atom: Expression, is_head: bool) -> None:
         raise Refused(f"{quoted(atom)} is not a sentence", advice=f"write {form}" if form else "")
     if is_head and name in ("true", "does"):
         advice = "`next` and `init` say what is true in a state" if name == "true" else "`legal` says which moves there are"
-        raise Refused(f"{quoted(atom)} is a head", advice=advice)
+        raise Refused(f"{quoted(atom)} can't be a head", advice=advice)
     if not is_head and name in ("init", "next"):
-        raise Refused(f"{quoted(atom)} is in a body", advice="ask for what is true in the state by `true`")
+        raise Refused(f"{quoted(atom)} can't be in a body", advice="use `true` for what is true in the state")
 
 
 def must_be_literal(literal: Expression) -> None:
@@ -112,7 +112,7 @@ def must_be_literal(literal: Expression) -> None:
 def each_of(ways: list[list[Body]]) -> list[Body]:
     """Returns the ways to satisfy all of these conditions, each given by its own ways."""
     if math.prod(map(len, ways)) > MOST_WAYS:
-        raise Refused(f"its `or`s can hold in more than {MOST_WAYS:,} ways", advice="give some of them a relation with rules")
+        raise Refused(f"its `or`s can hold in more than {MOST_WAYS:,} ways", advice="move some of them into a relation with its own rules")
     return [tuple(itertools.chain(*way)) for way in itertools.product(*ways)]
 
 
@@ -199,12 +199,12 @@ def all_rules(sentences: Sequence[Expression], of_one: Callable = rules_of) -> l
 def refuse_dependence(asks: Mapping[Relation, Iterable[Relation]], source: Callable[[Relation, Relation], int]) -> None:
     """Refuses dependencies that the referee refuses too: `legal`, `goal` and `terminal` may not depend on moves, nor `role` and `init` on a state or
     moves. `source` returns the sentence in which a relation uses another."""
-    moving, fixed = "let `next` keep what the moves did, and ask for that by `true`", "it has to be known before the first state"
+    moving, fixed = "let `next` record what the moves did, and read that with `true`", "it must be known before the first state"
     first = [("init", ["true", "does"], fixed), ("role", ["true", "does"], fixed)]
     for name, others, advice in [("legal", ["does"], moving), ("goal", ["does"], moving), ("terminal", ["does"], moving), *first]:
         for other in others:
             if way := way_to((name, ARITIES[name]), (other, ARITIES[other]), asks):
-                by = f", by {shown(', '.join(quoted(key[0]) for key in way[1:-1]), MOST_OF_WAY)}" if len(way) > 2 else ""
+                by = f", through {shown(', '.join(quoted(key[0]) for key in way[1:-1]), MOST_OF_WAY)}" if len(way) > 2 else ""
                 raise Refused(f"{name} depends on {other}{by}", source(way[-2], way[-1]), advice)
 
 

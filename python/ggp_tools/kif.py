@@ -13,7 +13,7 @@ Relation = tuple[str, int | None]
 MOST_LEVELS = 64
 # Advice for files of other kinds, by their first bytes.
 FILE_HEADS = {
-    "\xef\xbb\xbf": "the file begins with a byte order mark: save it without one", "\x1f\x8b": "the file is packed by gzip: unpack it",
+    "\xef\xbb\xbf": "the file begins with a byte order mark: save it without one", "\x1f\x8b": "the file is compressed with gzip: decompress it",
     "\xff\xfe": "the file is UTF-16: save it as ASCII", "\xfe\xff": "the file is UTF-16: save it as ASCII",
 }
 # Messages show at most this many characters of a sentence.

@@ -58,7 +58,7 @@ def find_program(given: str | None) -> str:
         if file and os.access(file, os.X_OK):
             return str(file)
     places = ", ".join(map(str, folders))
-    raise NoReferee(f"{PROGRAM} is not in {places}, nor on the path of the shell (PATH); `--program FILE` names it")
+    raise NoReferee(f"{PROGRAM} is not in {places}, nor on the PATH of the shell; name it with `--program FILE`")
 
 
 def has_events(version: bytes) -> bool:
@@ -81,8 +81,8 @@ def records_replayed(output: bytes) -> list[bytes]:
 
 def unchecked(said: subprocess.CompletedProcess, name: object) -> Unchecked:
     """Returns the error of a run that gave no verdict. `name` names the rules."""
-    words = last_line(said).removeprefix("ggp_manager: ") or "it said nothing"
-    return Unchecked(f"`{PROGRAM} {said.args[1]}` came to no verdict with {name}: {words}; {ended_words(said.returncode)}")
+    words = last_line(said).removeprefix("ggp_manager: ") or "it printed nothing"
+    return Unchecked(f"`{PROGRAM} {said.args[1]}` gave no verdict for {name}: {words}; {ended_words(said.returncode)}")
 
 
 @contextlib.contextmanager

@@ -11,7 +11,7 @@ from ggp_tools.competition.addresses import looked_up, mistakes_of_addresses, pl
 from ggp_tools.competition.competition_file import read_competition
 from support import call, toml
 
-BROADCAST = "the system refuses connections to it, as to a broadcast address"
+BROADCAST = "the system refuses connections to it, for example because it is a broadcast address"
 MULTICAST = "a multicast address accepts no connection"
 LINK_LOCAL = "a link-local address needs its interface, for example [fe80::1%eth0]"
 # Addresses to which no operating system connects.
@@ -40,7 +40,7 @@ def test_addresses_of_ipv6_with_interfaces():
     assert mistakes("[::]:9147", "[0:0::1]:9147") == [(10, "'[0:0::1]:9147' and '[::]:9147', the address of p0, are the same: ::1, port 9147")]
     assert mistakes("127.0.0.1:9147", "127.0.0.2:9147", "[::1]:9148") == []
     without = [(address, "this computer has no such interface, or the address is not link-local") for address in ("[fe80::1%nope]:9147", "[::1%lo]:9147")]
-    through = [(address, "this interface reaches no link-local address") for address in ("[fe80::1%lo]:9147", "[fe80::1%1]:9148")]
+    through = [(address, "this interface can't reach link-local addresses") for address in ("[fe80::1%lo]:9147", "[fe80::1%1]:9148")]
     assert mistakes(*(address for address, _ in without + through)) == [
         (line, f"{address!r}: {why}") for line, (address, why) in zip(range(7, 19, 3), without + through)
     ]

@@ -20,7 +20,7 @@ class Answers(unittest.TestCase):
     def test_why_a_text_is_not_one_expression(self):
         for answer, words in (
             ("", "it is empty"),
-            ("  ; stay", "it has no expression"),
+            ("  ; stay", "it contains no expression"),
             ("stay stay..", "a second expression begins at column 6"),
             ("(take 1) noop", "a second expression begins at column 10"),
             ("(take 1", "a list that is not closed at column 1"),

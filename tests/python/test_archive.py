@@ -102,7 +102,7 @@ SPOILINGS = {
     "a move of the account is another one": (changed("cup/accounts/cup-001.txt", lambda text: text.replace(b"READY", b"BUSY").replace(b"(take 1)", b"(take 2)")), "cup-001: "),
     "two accounts are exchanged": (swapped("cup/accounts/cup-001.txt", "cup/accounts/cup-002.txt"), "does not reproduce its record"),
     "two whole matches are exchanged": (None, "cup-001: its matchId is 'cup-002'"),
-    "calls of one account stand in another": (moved_calls, "of its call log is of another match: 0 strict cup-002 "),
+    "calls of one account stand in another": (moved_calls, "of its call log belongs to another match: 0 strict cup-002 "),
     "an account has a line that replay skips": (
         changed("cup/accounts/cup-003.txt", lambda text: b'{"goalValues":[100,0]}\n' + text), 'cup-003: line 1 of its call log does not open a match: {"goalValues":[100,0]}',
     ),
@@ -115,9 +115,9 @@ SPOILINGS = {
     "the sums of the descriptions are missing": (without("cup/rules/DESCRIPTIONS.sha256"), "rules/DESCRIPTIONS.sha256 is missing: it has the checksums of the descriptions"),
     "there is a sum of another description": (changed("cup/rules/DESCRIPTIONS.sha256", lambda text: text + b"0" * 64 + b"  more.kif\n"), "has a checksum of more.kif, which is not a game"),
     "the schedule is another": (changed("cup/schedule.tsv", lambda text: text.replace(b"ann bob", b"bob ann", 1)), "schedule.tsv does not agree with"),
-    "the competition has other strikes": (changed("cup/competition.toml", lambda text: text.replace(b"strikes = 1", b"strikes = 2")), "competition.toml:4: strikes was 1 and is 2"),
-    "the competition counts otherwise": (changed("cup/competition.toml", lambda text: text.replace(b"forfeit = true", b"forfeit = false")), "competition.toml:5: forfeit was true and is false"),
-    "the competition has another order": (changed("cup/competition.toml", lambda text: b'order = "points"\n' + text), "competition.toml:1: order was 'goals' and is 'points'"),
+    "the competition has other strikes": (changed("cup/competition.toml", lambda text: text.replace(b"strikes = 1", b"strikes = 2")), "competition.toml:4: strikes was 1 and is now 2"),
+    "the competition counts otherwise": (changed("cup/competition.toml", lambda text: text.replace(b"forfeit = true", b"forfeit = false")), "competition.toml:5: forfeit was true and is now false"),
+    "the competition has another order": (changed("cup/competition.toml", lambda text: b'order = "points"\n' + text), "competition.toml:1: order was 'goals' and is now 'points'"),
     "a forfeit is taken away": (changed("cup/matches.jsonl", lambda text: re.sub(rb'"forfeit":.*?"counted":.*?\],', b"", text, count=1)), "matches.jsonl does not follow"),
     "a forfeit has another reason": (changed("cup/matches.jsonl", lambda text: text.replace(b'"errors":["IL"]', b'"errors":["TO"]', 1)), "matches.jsonl does not follow"),
     "a forfeit is taken away from its page": (changed("cup/pages/index.html", lambda text: re.sub(rb"forfeit: cid .*?<", b"<", text, count=1)), "pages/index.html does not follow"),
@@ -168,7 +168,7 @@ class Archive(unittest.TestCase):
         yield "two whole matches are exchanged", packed(both)
 
     def test_checked_elsewhere_and_refused_after_each_spoiling(self):
-        self.assertIn("nothing is published: 12 matches have no lawful record", self.ran[1][2])
+        self.assertIn("nothing was published: 12 matches have no lawful record", self.ran[1][2])
         self.assertEqual(self.ran[3][1].split()[0], hashlib.sha256(self.archive.read_bytes()).hexdigest())
         shutil.copy(self.archive, self.other)
         status, out, said = run(self.other, "check", "cup.tar.gz")
@@ -201,7 +201,7 @@ class Archive(unittest.TestCase):
 
     def test_an_archive_that_can_not_be_checked(self):
         short = program_but(self.other / "short", '"$1" = replay', "kill -9 $$")
-        said = "ggp_competition: `ggp_manager replay` came to no verdict with cup/rules/countdown.kif: it said nothing; it was killed by signal 9 (SIGKILL); nothing is changed\n"
+        said = "ggp_competition: `ggp_manager replay` gave no verdict for cup/rules/countdown.kif: it printed nothing; it was killed by signal 9 (SIGKILL); nothing was changed\n"
         self.assertEqual(run(self.folder, "check", "cup.tar.gz", "--program", short), (3, "", said))
 
     def test_sums_that_were_made_anew_are_taken_of_what_is_right(self):
@@ -226,7 +226,7 @@ class Archive(unittest.TestCase):
         self.assertEqual((run(cup, "publish", "--gaps", "--to", "again.tar.gz")[0], (cup / "again.tar.gz").read_bytes()), (0, published))
         line = next(planned for planned in (cup / "schedule.tsv").read_text().splitlines() if planned.startswith("cup-003"))
         (cup / "records/cup-003.json").unlink()
-        self.assertIn("nothing is published: 1 match has no lawful record; `--gaps` publishes the others\n", run(cup, "publish")[2])
+        self.assertIn("nothing was published: 1 match has no lawful record; `--gaps` publishes the others\n", run(cup, "publish")[2])
         self.assertEqual(run(cup, "publish", "--gaps")[::2], (0, ""))
         files = files_of(cup / "cup.tar.gz")
         self.assertEqual(files["cup/GAPS.tsv"].decode().splitlines()[1:], [line])
@@ -246,7 +246,7 @@ class Archive(unittest.TestCase):
             self.assertIn(words, said)
         before = (cup / "cup.tar.gz").read_bytes()
         (cup / "records/cup-004.json").write_bytes(b"{}\n")
-        self.assertIn("nothing is published: 2 matches have no lawful record\n", run(cup, "publish", "--gaps")[2])
+        self.assertIn("nothing was published: 2 matches have no lawful record\n", run(cup, "publish", "--gaps")[2])
         self.assertEqual((cup / "cup.tar.gz").read_bytes(), before)
 
     def test_what_is_published_is_what_was_counted(self):
@@ -271,7 +271,7 @@ class Archive(unittest.TestCase):
         published = (cup / "cup.tar.gz").read_bytes()
         for change, words in ((b"(role nonsense)\n", "is not the description that the rules of odd were made from"), (None, "is missing: it is the description of odd, and the archive needs a copy of it")):
             (cup / "odd.kif").write_bytes(change) if change else (cup / "odd.kif").unlink()
-            self.assertEqual(run(cup, "publish"), (1, "", f"ggp_competition: nothing is published: odd.kif {words}\n"))
+            self.assertEqual(run(cup, "publish"), (1, "", f"ggp_competition: nothing was published: odd.kif {words}\n"))
         (cup / "odd.kif").write_text(ODD)
         sums = cup / "rules/DESCRIPTIONS.sha256"
         before = sums.read_bytes()
@@ -298,17 +298,17 @@ class Archive(unittest.TestCase):
         (self.other / "there").mkdir()
         os.mkfifo(self.other / "pipe")
         wrong = [
-            (".", ". is not a regular file: `--to` names the file of the archive"),
-            (f"{self.other}/there/", f"{self.other}/there is not a regular file: `--to` names the file of the archive"),
-            (f"{self.other}/pipe", f"{self.other}/pipe is not a regular file: `--to` names the file of the archive"),
+            (".", ". is not a regular file: `--to` must name the file of the archive"),
+            (f"{self.other}/there/", f"{self.other}/there is not a regular file: `--to` must name the file of the archive"),
+            (f"{self.other}/pipe", f"{self.other}/pipe is not a regular file: `--to` must name the file of the archive"),
             ("none/a.tgz", "none/a.tgz can't be written: none is not a directory"),
             ("competition.toml/a.tgz", "competition.toml/a.tgz can't be written: competition.toml is not a directory"),
         ]
-        among = "is among the files of the competition: `--to` names a file directly in ., or outside of it"
+        among = "is among the files of the competition: `--to` must name a file directly in ., or outside it"
         wrong += [(path, f"{path} {among}") for path in ("pages/a.tgz", "records/cup-001.json", f"{self.other}/link/rules/odd.kif", "pages/matches/a.tgz")]
         (self.other / "link").symlink_to(self.folder)
         own = "competition.toml", "schedule.tsv", "matches.jsonl", "planned.toml", "play.log", "odd.kif", f"{self.other}/link/odd.kif"
-        wrong += [(path, f"{path} exists and is not an archive: `--to` names the file of the archive") for path in own]
+        wrong += [(path, f"{path} exists and is not an archive: `--to` must name the file of the archive") for path in own]
         before = {file: file.is_file() and file.read_bytes() for file in self.folder.rglob("*")}
         for to, words in wrong:
             self.assertEqual(run(self.folder, "publish", "--to", to), (2, "", f"ggp_competition: {words}\n"))
@@ -324,7 +324,7 @@ class Archive(unittest.TestCase):
             said = io.StringIO()
             with mock.patch("ggp_tools.competition.packing.MOST_BYTES", most), mock.patch("sys.argv", words), mock.patch("sys.stderr", said), mock.patch("sys.stdout", io.StringIO()):
                 self.assertEqual(main(), status)
-            self.assertEqual(said.getvalue(), f"ggp_competition: nothing is published: it has more than {most:,} bytes, the limit of an archive\n" if status else "")
+            self.assertEqual(said.getvalue(), f"ggp_competition: nothing was published: it has more than {most:,} bytes, the limit of an archive\n" if status else "")
             self.assertEqual(((cup / "cup.tar.gz").read_bytes(), [*cup.glob(".*")]), (before, []))
             with mock.patch("ggp_tools.competition.packing.MOST_BYTES", most), tempfile.TemporaryDirectory() as room:
                 try:

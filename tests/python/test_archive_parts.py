@@ -163,10 +163,10 @@ class Checked(Made):
         self.publish()
         self.referee.wrong = {b'"cup-002"': "not lawful: goals"}
         self.assertEqual(self.check()[0], ["cup-002: not lawful: goals"])
-        self.referee.unchecked = "`ggp_manager verify` came to no verdict with {}: it said nothing, status 3"
+        self.referee.unchecked = "`ggp_manager verify` gave no verdict for {}: it printed nothing, status 3"
         with self.assertRaises(Unchecked) as why:
             self.check()
-        self.assertEqual(str(why.exception), "`ggp_manager verify` came to no verdict with cup/rules/heap.kif: it said nothing, status 3")
+        self.assertEqual(str(why.exception), "`ggp_manager verify` gave no verdict for cup/rules/heap.kif: it printed nothing, status 3")
 
     def test_a_competition_with_logs_of_an_earlier_version_is_refused(self):
         read_plan(str(self.folder), self.referee)
@@ -225,10 +225,10 @@ class Checked(Made):
             with mock.patch.multiple(history, MOST_EARLIER=number, MOST_OF_EARLIER=size):
                 with self.assertRaises(Refused) as why:
                     make_plan(str(self.folder), self.referee)
-                words = f"{{}}/earlier: expected at most {number} files with {size} bytes together, found {found}"
+                words = f"{{}}/earlier: expected at most {number} files with {size} bytes in total, found {found}"
                 self.assertEqual(str(why.exception), f"{words.format(self.folder)}: the schedule can't grow any more; begin another competition")
         with mock.patch.object(history, "MOST_EARLIER", 0):
-            self.assertEqual(self.check()[0], [f"cup/earlier: expected at most 0 files with 67,108,864 bytes together, found 1 with {len(texts[0])}"])
+            self.assertEqual(self.check()[0], [f"cup/earlier: expected at most 0 files with 67,108,864 bytes in total, found 1 with {len(texts[0])}"])
         self.assertEqual(len(make_plan(str(self.folder), self.referee).history.earlier), 2)
 
     def test_beside_ground_rules_the_description_is_in_the_archive(self):

@@ -52,7 +52,7 @@ class BadInput(InFolder):
         for head, told in (("forfeit = true", 1), ("forfeit = true\nstrikes = 1", 0), ("strikes = 0", 0)):
             self.write(PLAYERS, [("countdown", GAMES / "countdown.kif")], head=head)
             status, out, said = run(self.folder, "plan")
-            self.assertEqual((status, said, out.count("forfeit: without `strikes` no player is retired, so none loses a match by it\n")), (0, "", told))
+            self.assertEqual((status, said, out.count("forfeit: without `strikes` no player is retired, so `forfeit` has no effect\n")), (0, "", told))
 
     def test_a_name_that_the_locale_lacks(self):
         self.write(PLAYERS, [("game", "\N{GREEK SMALL LETTER BETA}.kif")])
@@ -70,7 +70,7 @@ class BadInput(InFolder):
             self.assertEqual(run(self.folder, "plan")[0], 0, name)
         (self.folder / "records/cup-1.json").touch()
         self.write(PLAYERS, [("game", "game.kif")], head="play = 4\n")
-        self.assert_refused("competition.toml:5: the clocks of game were 10 and 3, and are 10 and 4: put back what was changed", "plan")
+        self.assert_refused("competition.toml:5: the clocks of game were 10 and 3, and are now 10 and 4: undo the change", "plan")
 
     def test_a_plan_that_is_broken_off_is_none(self):
         game, written = self.folder / "game.kif", []
@@ -103,8 +103,8 @@ class BadInput(InFolder):
         game, referee = self.folder / "game.kif", stand_in(roles=lambda *_: ("robot",))
         buttons = (GAMES / "buttons.kif").read_text()
         for text, words in (
-            ("(role robot)", "no match of it can begin: at the start it is aborted with `nolegal robot`"),
-            ("(role robot) (<= terminal (role robot))", "no match of it can begin: at the start it is aborted with `nogoal robot`"),
+            ("(role robot)", "no match of it can begin: it is aborted at the start with `nolegal robot`"),
+            ("(role robot) (<= terminal (role robot))", "no match of it can begin: it is aborted at the start with `nogoal robot`"),
             (buttons.replace("(<= terminal solved", "(=> terminal solved").replace("robot 0", "robto 0"), "all of 5 random matches were aborted, with `nogoal robot`"),
             (buttons, ""),
         ):
@@ -121,7 +121,7 @@ class BadInput(InFolder):
             (self.folder / "schedule.tsv").unlink()
 
     def test_a_game_whose_matches_are_long_is_planned_and_told(self):
-        for fault, words in ((TimeIsOver(), "no random match of it came to its end in 10 s"), (RecursionError(), "it was not tried: its rules ask for one another too deeply")):
+        for fault, words in ((TimeIsOver(), "no random match of it ended within 10 s"), (RecursionError(), "it was not tested: its rules depend on one another too deeply")):
             with mock.patch("ggp_tools.descriptions.random_matches.RandomMatches.play", side_effect=fault):
                 why, note = trial(b"(role a)", None, "game")
             self.assertIsNone(why)
@@ -151,7 +151,7 @@ class BadInput(InFolder):
         for path in before:
             games.write_text(text.replace("100", "99"))
             path.unlink()
-            self.assert_refused("would change, but matches have already been played: put back what was changed, or use another directory\n", "plan")
+            self.assert_refused("would change, but matches have already been played: undo the change, or use another directory\n", "plan")
             games.write_text(text)
             self.assertEqual(run(self.folder, "plan")[::2], (0, ""))
 
@@ -160,11 +160,11 @@ class BadInput(InFolder):
         file, rules = self.folder / "competition.toml", self.folder / "rules/game.kif"
         text = file.read_text()
         file.write_text(text.replace("start = 2", "start = 3"))
-        self.assert_refused("the clocks of game were 2 and 10, and are 3 and 10: put back what was changed", "play")
+        self.assert_refused("the clocks of game were 2 and 10, and are now 3 and 10: undo the change", "play")
         for command in ("table", "pages", "publish"):
-            self.assert_refused("schedule.tsv does not agree with competition.toml: matches were played, so put back what was changed, or add to it and plan again\n", command)
+            self.assert_refused("schedule.tsv does not agree with competition.toml: matches have already been played, so undo the change, or only add to the file and plan again\n", command)
         file.write_text(text.replace('name = "game"', 'name = "other"'))
-        self.assert_refused("rules/SHA256SUMS does not agree with competition.toml: matches were played, so put back what was changed, or add to it and plan again\n", "table")
+        self.assert_refused("rules/SHA256SUMS does not agree with competition.toml: matches have already been played, so undo the change, or only add to the file and plan again\n", "table")
         file.write_text(text)
         rules.write_text("(role a)")
         self.assert_refused("rules/game.kif is not what `ggp_competition plan` wrote: delete it, and `ggp_competition plan` writes it again\n", "play")
@@ -229,7 +229,7 @@ class BadInput(InFolder):
         short = program_but(self.folder / "short", '"$1" = verify', "echo 'ggp_manager: want of memory' >&2; exit 3")
         status, out, said = run(self.folder, "plan", "--program", short)
         self.assertEqual((status, out), (3, ""))
-        self.assertEqual(said, f"ggp_competition: `ggp_manager verify` came to no verdict with {GAMES}/tictactoe.kif: want of memory; it ended with status 3; nothing is changed\n")
+        self.assertEqual(said, f"ggp_competition: `ggp_manager verify` gave no verdict for {GAMES}/tictactoe.kif: want of memory; it ended with status 3; nothing was changed\n")
         self.assertEqual(sorted(file.name for file in self.folder.iterdir()), ["competition.toml", "short"])
 
     def test_all_descriptions_are_told_at_once(self):
@@ -287,7 +287,7 @@ class BadInput(InFolder):
     def test_no_referee_is_found(self):
         with mock.patch("sys.argv", ["/none/bin/ggp_competition"]), mock.patch("os.access", return_value=False), self.assertRaises(NoReferee) as why:
             find_program(None)
-        said = f"ggp_manager is not in /none/bin, {TOP}/bin, nor on the path of the shell (PATH); `--program FILE` names it"
+        said = f"ggp_manager is not in /none/bin, {TOP}/bin, nor on the PATH of the shell; name it with `--program FILE`"
         self.assertEqual(str(why.exception), said)
 
     def test_a_folder_with_a_name_that_the_output_can_not_say(self):

@@ -248,7 +248,7 @@ class Accounts(unittest.TestCase):
 
     def test_a_call_on_another_match(self):
         other = CALL_LINES[4].replace(b"cup-001", b"cup-002")
-        self.assertEqual(self.fault(*CALL_LINES[:5], other, *CALL_LINES[5:]), "line 6 of its call log is of another match: 1 next cup-002 0 hold 0")
+        self.assertEqual(self.fault(*CALL_LINES[:5], other, *CALL_LINES[5:]), "line 6 of its call log belongs to another match: 1 next cup-002 0 hold 0")
 
     def test_the_first_line_opens_the_match(self):
         for lines, shown in ((CALL_LINES[1:], "1 next cup-001 0 owe 0 start"), ([CALL_LINES[0].replace(b"opened", b"refused deskfull")], "0 strict cup-001 0 5 5 2 ann bob refused deskfull"), ([], "")):

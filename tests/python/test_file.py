@@ -21,7 +21,7 @@ MISTAKES = [
     ('name = "cup"', 'name = "a cup"', [(1, "name", "expected a name")]),
     ('name = "cup"', 'name = ".."', [(1, "name", "beginning with a letter or a digit")]),
     ('name = "cup"', f'name = "{"c" * 41}"', [(1, "name", "expected a name")]),
-    ("start = 30", f"start = 0x{'f' * 5_000}", [(2, "start", "from 1 to 86,400, found a number of many digits")]),
+    ("start = 30", f"start = 0x{'f' * 5_000}", [(2, "start", "from 1 to 86,400, found a number with very many digits")]),
     ("start = 30", "start = true", [(2, "start", "a whole number")]),
     ("start = 30", 'start = "1:75:00"', [(2, "start", "a whole number")]),
     ("strikes = 3", "striks = 3", [(3, "striks", "no such key")]),
@@ -180,7 +180,7 @@ class CompetitionFile(unittest.TestCase):
     def test_the_document_has_the_limits(self):
         text = (TOP / "docs/COMPETITION.md").read_text()
         limits = [
-            f"at most {MOST_OF_COMPETITION:,} bytes", f"at most {MOST_SIGNS:,} of the signs", f"at most {MOST_PLAYERS:,} players, {MOST_GAMES:,} games", f"at most {MOST_MATCHES:,} matches", f"at most {MOST_EARLIER:,} files with {MOST_OF_EARLIER:,} bytes together", f"`rounds`, 1 to {MOST_ROUNDS:,} (1)", f"0 to {MOST_STRIKES}",
+            f"at most {MOST_OF_COMPETITION:,} bytes", f"at most {MOST_SIGNS:,} of the signs", f"at most {MOST_PLAYERS:,} players, {MOST_GAMES:,} games", f"at most {MOST_MATCHES:,} matches", f"at most {MOST_EARLIER:,} files with {MOST_OF_EARLIER:,} bytes in total", f"`rounds`, 1 to {MOST_ROUNDS:,} (1)", f"0 to {MOST_STRIKES}",
             "before it leaves the match to the next `play`, 1 to 1,000 (5)", f"0 to {MOST_SECONDS:,} (10)", f"N matches at the same time, 1 to {MOST_AT_ONCE:,}, by default 4", "`concurrent = N`, 1 to 1,024",
             "`name` | 1 to 40 letters", "`name`, 1 to 64 letters",
         ]

@@ -201,7 +201,7 @@ class Game(InFolder):
         status, lines = self.look("(role a)\n(=> (legal a x) p)\n(<= (next x) (init x))")
         self.assertEqual((status, lines), (1, [
             "game.kif is not accepted: line 3, column 1: true or does as a head, init or next as a condition, or a role with conditions: (<= (next x) (init x))",
-            "line 3, column 1: (init x) is in a body: (<= (next x) (init x)); ask for what is true in the state by `true`",
+            "line 3, column 1: (init x) can't be in a body: (<= (next x) (init x)); use `true` for what is true in the state",
             "suspicious: line 2, column 1: `=>` is not a GDL keyword, and the game does not use it; is `<=` meant?: (=> (legal a x) p)",
             "the rest was not checked",
         ]))
@@ -224,7 +224,7 @@ class Game(InFolder):
                 "these depend on each other: line 4, column 1: (<= r r)",
             ]),
             ("(role a)\n(role b)\n(role A)", ["these name the same role: line 1, column 1: (role a); line 3, column 1: (role a)"]),
-            ("(role a)\n(<= terminal p)\n(<= p (does a b))", ["line 3, column 1: terminal depends on does, by p: (<= p (does a b)); let `next` keep what the moves did, and ask for that by `true`"]),
+            ("(role a)\n(<= terminal p)\n(<= p (does a b))", ["line 3, column 1: terminal depends on does, through p: (<= p (does a b)); let `next` record what the moves did, and read that with `true`"]),
             ("(role a)\n(goal a 101)", ["line 2, column 1: (goal a 101) can be derived, and its goal is not a number from 0 to 100: (goal a 101)"]),
             ("(role a)\n(role a b)", ["line 2, column 1: (role a b) is not a sentence: (role a b); write (role _)"]),
             ("(role a)\n" + "".join(f"(<= p{number} p{(number + 1) % 10})\n" for number in range(10)), [
@@ -274,7 +274,7 @@ class Game(InFolder):
     def test_a_move_that_no_player_can_make(self):
         status, lines = self.look(SOUND.replace("bob wait", f"bob (wait {'x' * 5_000})"), "--matches", "2")
         self.assertEqual((status, lines[2]), (0, "random matches, seeds 1 to 2: 2 finished, 0 aborted"))
-        self.assertEqual(lines[-1], "2 of them have a move that no player can make: their records are not compared")
+        self.assertEqual(lines[-1], "2 of them have a move that no player can make, so their records were not compared")
         self.assertRegex(lines[1], r"^suspicious: line 5, column 1: no player can make this move: ")
 
     @pytest.mark.gate
@@ -294,12 +294,12 @@ class Game(InFolder):
         other = 'input=$(cat); if [[ "$input" = *seed-* ]]; then {}; fi; ' + program() + ' "$@" <<< "$input"; exit $?'
         cases = {
             program() + ''' "$@" <<< "$input" | sed 's/"(step 2)"/"(step 4)"/'; exit 0''': (
-                1, "seed 1: the program's record is not that of the interpreter of ggp_competition, by states: please report it\n", "",
+                1, "seed 1: the program's record differs from that of the interpreter of ggp_competition in states: please report it\n", "",
             ),
-            "exec sleep 600": (0, "the program had not played 1 of them after 5 s: their records are not compared\n", ""),
+            "exec sleep 600": (0, "the program had not played 1 of them after 5 s, so their records were not compared\n", ""),
             "echo 'ggp_manager: want of memory' >&2; exit 3": (
                 3, "",
-                "ggp_competition: `ggp_manager desk` came to no verdict with game.kif: want of memory; it ended with status 3\n",
+                "ggp_competition: `ggp_manager desk` gave no verdict for game.kif: want of memory; it ended with status 3\n",
             ),
         }
         for done, (wanted, printed, told) in cases.items():
@@ -314,13 +314,13 @@ class Game(InFolder):
         (self.folder / "game.kif").write_text(OPEN)
         (self.folder / "gringo").write_text("#!/bin/bash\nkill -9 $PPID\nsleep 9\n")
         (self.folder / "gringo").chmod(0o755)
-        said = "ggp-instantiate came to no verdict with game.kif: ggp-instantiate ended with status -9"
+        said = "ggp-instantiate gave no verdict for game.kif: ggp-instantiate ended with status -9"
         path = f"{self.folder}:{os.environ['PATH']}"
         self.assertEqual(run(self.folder, "game", "game.kif", env={**os.environ, "PATH": path}), (3, "", f"ggp_competition: {said}\n"))
         (self.folder / "gringo").write_text("#!/bin/bash\nkill -9 $$\n")
         status, out, said = run(self.folder, "game", "game.kif", env={**os.environ, "PATH": path})
         self.assertEqual((status, out), (3, ""))
-        self.assertRegex(said, "^ggp_competition: ggp-instantiate came to no verdict with game.kif: .*gringo took .*, or was ended\n$")
+        self.assertRegex(said, "^ggp_competition: ggp-instantiate gave no verdict for game.kif: .*gringo took .*, or was killed\n$")
         self.assertEqual(run(self.folder, "game", "game.kif", env={**os.environ, "PATH": "/nowhere"}), (
             3, "", "ggp_competition: game.kif can't be grounded: the grounder gringo is not installed\n",
         ))

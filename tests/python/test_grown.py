@@ -40,7 +40,7 @@ GROWN = {
         lambda files: packed({**files, "cup/earlier/7.toml": files["cup/competition.toml"]}), "earlier/7.toml asks for the same matches as the file after it",
     ),
     "there are more files before than `plan` writes": (
-        lambda files: packed({**files, **{f"cup/earlier/{at}.toml": b"" for at in range(9, 1_009)}}), "cup/earlier: expected at most 1,000 files with 67,108,864 bytes together, found 1,001 with",
+        lambda files: packed({**files, **{f"cup/earlier/{at}.toml": b"" for at in range(9, 1_009)}}), "cup/earlier: expected at most 1,000 files with 67,108,864 bytes in total, found 1,001 with",
     ),
     "a forfeit is taken away": (changed("cup/table.json", lambda text: text.replace(b'"lost_by_forfeit": 4', b'"lost_by_forfeit": 0')), "table.json does not follow"),
 }
@@ -127,7 +127,7 @@ class Spoilt(InArchive):
         kept = {file: file.read_bytes() for match in ("cup-003", "cup-004") for file in self.folder.glob(f"*/{match}.*")}
         for file in kept:
             file.unlink()
-        self.assertEqual(run(self.folder, "publish")[2], "ggp_competition: nothing is published: 1 of 2 rounds are not planned yet; `--gaps` publishes without them\n")
+        self.assertEqual(run(self.folder, "publish")[2], "ggp_competition: nothing was published: 1 of 2 rounds are not planned yet; `--gaps` publishes without them\n")
         self.ran("publish", "--gaps")
         self.assertIn("2 records and call logs, the table and the pages are right; 1 of 2 rounds were not planned; published", self.ran("check", "cup.tar.gz")[0])
         self.assertEqual(files_of(self.folder / "cup.tar.gz")["cup/GAPS.tsv"], text.splitlines(keepends=True)[0])

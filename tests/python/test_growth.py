@@ -69,7 +69,7 @@ class Growth(unittest.TestCase):
         self.assertEqual(seated(self.grown(before, competition(4, 3, ("three",))).matches), Counter(asked(competition(4, 3, ("three",)), ROLES)))
         with self.assertRaises(Misfit) as why:
             self.grown(before, competition(5, 2, ("three",)))
-        self.assertEqual(str(why.exception), "three has more than two roles, so add rounds and players one after the other, and plan in between")
+        self.assertEqual(str(why.exception), "three has more than two roles, so add rounds and players separately, and run `plan` in between")
 
     def test_lines_and_a_gauntlet(self):
         lines = 'kind = "schedule"\nlines = [{}]'
@@ -83,11 +83,11 @@ class Growth(unittest.TestCase):
         lines = 'kind = "schedule"\nlines = [{}]'
         pair = lines.format('"two p0 p1", "two p1 p0"')
         for before, after, words in (
-            (competition(3), competition(3, head="strikes = 1"), "strikes was 0 and is 1"),
-            (competition(3), competition(3, form='kind = "gauntlet"\none = "p0"'), "form.kind was 'round_robin' and is 'gauntlet'"),
+            (competition(3), competition(3, head="strikes = 1"), "strikes was 0 and is now 1"),
+            (competition(3), competition(3, form='kind = "gauntlet"\none = "p0"'), "form.kind was 'round_robin' and is now 'gauntlet'"),
             (competition(3), competition(2), "the player p2 is missing"),
             (competition(3), competition(3, games=("two",)), "the game one is missing"),
-            (competition(3), competition(3, head="play = 7"), "the clocks of two were 10 and 10, and are 10 and 7"),
+            (competition(3), competition(3, head="play = 7"), "the clocks of two were 10 and 10, and are now 10 and 7"),
             (competition(3, 2), competition(3, 1), "cup-007 (two p0 p1) was planned, but is no longer among the matches"),
             (competition(2, form=pair), competition(2, form=lines.format('"two p0 p1", "two p0 p1"')), "cup-002 (two p1 p0) was planned, but is no longer among the matches"),
         ):
@@ -187,8 +187,8 @@ class Growth(unittest.TestCase):
         games = ("three", "more")
         for history, after, words in (
             (History((), orders), competition(2), "cup-007, which was ordered again, is not the next match"),
-            (History(((8, competition(4, 1, games)),)), competition(5, 2, games), "more has more than two roles, so add rounds and players"),
-            (History(((9, competition(3)),)), competition(3, head="strikes = 1"), "strikes was 0 and is 1"),
+            (History(((8, competition(4, 1, games)),)), competition(5, 2, games), "more has more than two roles, so add rounds and players separately"),
+            (History(((9, competition(3)),)), competition(3, head="strikes = 1"), "strikes was 0 and is now 1"),
         ):
             with self.assertRaises(Misfit) as why:
                 grown(history, after, {**ROLES, "more": 3}, nothing_known)
@@ -307,23 +307,23 @@ class Histories(InFolder):
         (self.folder / "records").mkdir()
         (self.folder / "records/cup-001.json").touch()
         first = (self.folder / "schedule.tsv").read_bytes()
-        self.assertEqual(self.planned(), "schedule.tsv: 6 matches of 3 players; nothing is added")
+        self.assertEqual(self.planned(), "schedule.tsv: 6 matches of 3 players; nothing added")
         self.write(3, 2)
         self.assertEqual(self.planned(), "schedule.tsv: 12 matches of 3 players; added: 6, cup-007 to cup-012")
         self.write(4, 2, "wait = 3")
         self.assertEqual(self.planned(), "schedule.tsv: 24 matches of 4 players; added: 12, cup-013 to cup-024")
-        self.assertEqual(self.planned(), "schedule.tsv: 24 matches of 4 players; nothing is added")
+        self.assertEqual(self.planned(), "schedule.tsv: 24 matches of 4 players; nothing added")
         self.assertTrue((self.folder / "schedule.tsv").read_bytes().startswith(first))
         self.assertEqual(sorted(file.name for file in (self.folder / "earlier").iterdir()), ["12.toml", "6.toml"])
         before = {file: file.read_bytes() for file in self.folder.rglob("*") if file.is_file() and file.name != "competition.toml"}
         self.write(4, 1)
         status, out, said = run(self.folder, "plan")
         self.assertEqual((status, out), (2, ""))
-        self.assertRegex(said, r"competition.toml: cup-0\d\d \(countdown p\d p\d\) was planned, but is no longer among the matches: put back what was changed")
+        self.assertRegex(said, r"competition.toml: cup-0\d\d \(countdown p\d p\d\) was planned, but is no longer among the matches: undo the change")
         self.write(4, 2)
         for lost in ("schedule.tsv", "rules/SHA256SUMS", "planned.toml"):
             (self.folder / lost).unlink()
-            self.assertEqual(self.planned(), "schedule.tsv: 24 matches of 4 players" + ("" if lost == "schedule.tsv" else "; nothing is added"))
+            self.assertEqual(self.planned(), "schedule.tsv: 24 matches of 4 players" + ("" if lost == "schedule.tsv" else "; nothing added"))
             self.write(4, 2, "wait = 3")
         self.planned()
         self.assertEqual({file: file.read_bytes() for file in before}, before)

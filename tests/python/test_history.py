@@ -66,7 +66,7 @@ class Histories(unittest.TestCase):
             (self.folder.earlier / "9999.toml").write_bytes(b"x" * 1_600_000)
             with self.assertRaises(Refused) as why:
                 read_history(self.folder)
-            words = f"{self.folder.earlier}: expected at most 1,000 files with 67,108,864 bytes together, found {count + 1:,} with {count * size + 1_600_000:,}"
+            words = f"{self.folder.earlier}: expected at most 1,000 files with 67,108,864 bytes in total, found {count + 1:,} with {count * size + 1_600_000:,}"
             self.assertEqual(str(why.exception), f"{words}: the schedule can't grow any more; begin another competition")
             for file in self.folder.earlier.iterdir():
                 file.unlink()

@@ -54,12 +54,12 @@ class Followed(unittest.TestCase):
 
     def test_roles_that_are_others(self):
         for roles in (("ann", "eve"), ("bob", "ann")):
-            self.assertEqual(self.words(self.RULES, roles=roles), f"the roles are ann bob by the description, and {' '.join(roles)} in the record")
+            self.assertEqual(self.words(self.RULES, roles=roles), f"the roles are ann bob in the description, but {' '.join(roles)} in the record")
         ruled = "(player bob) (player ann) (<= (role ?x) (player ?x)) (init s) (legal ann go) (legal bob wait)"
         self.assertIsNone(self.words(ruled))
         self.assertIsNone(self.words(ruled, roles=("bob", "ann")))
         for roles in (("ann", "eve"), ("bob", "ann", "ann")):
-            self.assertEqual(self.words(ruled, roles=roles), f"the roles are bob ann by the description, and {' '.join(roles)} in the record")
+            self.assertEqual(self.words(ruled, roles=roles), f"the roles are bob ann in the description, but {' '.join(roles)} in the record")
 
     def test_a_text_that_is_not_canonical_is_told_in_part(self):
         why = raised(NotFollowed, self.words, self.RULES, moves=[("X" * 161, "wait")])
@@ -80,7 +80,7 @@ class Followed(unittest.TestCase):
         text = f"{self.RULES} (legal ann stay) (<= (next s) (true s))"
         said = "turn 1, ann: the answer stay was counted as illegal, but sentence 5, line 1: (legal ann stay) gives it"
         self.assertEqual(self.words(text, [("go", "wait")], [["IL stay", ""]]), said)
-        self.assertEqual(self.words(text, [("run", "wait")]), "turn 1, ann: the record plays run, which is not legal by the description")
+        self.assertEqual(self.words(text, [("run", "wait")]), "turn 1, ann: the record plays run, which is not legal according to the description")
         for error in ("IL wait", "IL ?", "TO", "CE", "RT"):
             self.assertIsNone(self.words(text, [("go", "wait")], [[error, ""]]), error)
             said = "turn 1, ann: the record plays stay instead of an answer, but go comes before it, by sentence 3, line 1: (legal ann go)"
@@ -97,13 +97,13 @@ class Followed(unittest.TestCase):
 
         one, other, none = (["a", "b"], ["go", "stay"], [70, 30]), (["b", "a"], ["stay", "go"], [30, 70]), (["a", "c"], ["go", "stay"], [70, 30])
         for played_so in (one, other, one, other, none, one, none, other):
-            words = "differs: the roles are a b by the description, and a c in the record" if played_so is none else "the same: 1 turn"
+            words = "differs: the roles are a b in the description, but a c in the record" if played_so is none else "the same: 1 turn"
             self.assertEqual(held(holding, *played_so), words)
         # After this turn, b has no legal move.
         holding = Holding(f"{rules.replace('(legal b stay)', '(<= (legal b stay) (true s))')} (<= terminal (true t)) (goal a 70)")
         for (roles, moves, _), stuck in ((one, 1), (other, 0)):
             words = [held(holding, roles, moves, [], phase="aborted", cause=f"nolegal {at}") for at in (stuck, 1 - stuck)]
-            said = "differs: after the last turn a has no legal move in the record, and by the description b"
+            said = "differs: the role without a legal move after the last turn is a in the record, but b in the description"
             self.assertEqual(words, ["the same: 1 turn", said])
 
     def test_of_the_moves_of_one_sentence_the_least_number_is_the_first(self):
@@ -146,12 +146,12 @@ class Followed(unittest.TestCase):
         over = f"{self.RULES} (<= terminal (true s)) (goal ann 5)"
         given_up = {"phase": "aborted", "states": [["s"]]}
         self.assertIsNone(self.words(over, **given_up, cause="nogoal 1"))
-        said = "the match was given up because ann has no single goal, and by the description bob does"
+        said = "the match was given up because ann does not have exactly one goal, but according to the description bob is the first such role"
         self.assertEqual(self.words(over, **given_up, cause="nogoal 0"), said)
         self.assertIsNone(self.words(f"{over} (goal ann 6)", **given_up, cause="nogoal 0"))
-        said = "the match was given up because bob has no single goal, and by the description ann does"
+        said = "the match was given up because bob does not have exactly one goal, but according to the description ann is the first such role"
         self.assertEqual(self.words(f"{over} (goal ann 6)", **given_up, cause="nogoal 1"), said)
-        said = "the match was given up because bob has no single goal, and by the description no role lacks its goal"
+        said = "the match was given up because bob does not have exactly one goal, but according to the description there is no such role"
         self.assertEqual(self.words(f"{over} (goal bob 6)", **given_up, cause="nogoal 1"), said)
         self.assertIn("but not in the description", self.words(f"{self.RULES} (goal ann 5)", **given_up, cause="nogoal 1"))
         for cause in ("asked", "toolong", "allretired", "nolegal 0"):
@@ -168,18 +168,18 @@ class Followed(unittest.TestCase):
             for cause in ("asked", "toolong", "allretired", "nolegal 0", "nolegal 1"):
                 self.assertEqual(self.words(text, **given_up, cause=cause) is None, cause in causes, cause)
         for text, cause, recorded, stuck in (
-            (self.RULES.replace("(legal bob wait)", ""), "nolegal 0", "ann", "bob"), (self.RULES.replace("(legal bob wait)", ""), "asked", "no role", "bob"),
-            (self.RULES, "nolegal 1", "bob", "no role"),
+            (self.RULES.replace("(legal bob wait)", ""), "nolegal 0", "ann", "bob"), (self.RULES.replace("(legal bob wait)", ""), "asked", "none", "bob"),
+            (self.RULES, "nolegal 1", "bob", "none"),
         ):
-            said = f"after the last turn {recorded} has no legal move in the record, and by the description {stuck}"
+            said = f"the role without a legal move after the last turn is {recorded} in the record, but {stuck} in the description"
             self.assertEqual(self.words(text, **given_up, cause=cause), said)
 
     def test_goals_at_the_end(self):
         over = {"phase": "finished", "states": [["s"]]}
         text = f"{self.RULES} (<= terminal (true s)) (goal ann 5) (goal bob 6)"
         self.assertIsNone(self.words(text, **over, goals=(5, 6)))
-        self.assertEqual(self.words(text.replace("(goal bob 6)", ""), **over, goals=(5, 6)), "bob has the goal 6 in the record, and by the description none")
-        said = "bob has the goal 6 in the record, and by the description sentence 7, line 1: (goal bob 6) gives 6; sentence 8, line 1: (goal bob 7) gives 7"
+        self.assertEqual(self.words(text.replace("(goal bob 6)", ""), **over, goals=(5, 6)), "bob has the goal 6 in the record, but according to the description none")
+        said = "bob has the goal 6 in the record, but according to the description sentence 7, line 1: (goal bob 6) gives 6; sentence 8, line 1: (goal bob 7) gives 7"
         self.assertEqual(self.words(f"{text} (goal bob 7)", **over, goals=(5, 6)), said)
         self.assertIn("but not in the description", self.words(f"{self.RULES} (goal ann 5) (goal bob 6)", **over, goals=(5, 6)))
 
@@ -267,7 +267,7 @@ class Described(unittest.TestCase):
 
     def test_what_is_no_description(self):
         for text, words in (
-            ("(role a)\n(<= (legal a ?m) (does a ?m))", "line 2, column 1: legal depends on does: (<= (legal a ?m) (does a ?m)); let `next` keep what the moves did, and ask for that by `true`"),
+            ("(role a)\n(<= (legal a ?m) (does a ?m))", "line 2, column 1: legal depends on does: (<= (legal a ?m) (does a ?m)); let `next` record what the moves did, and read that with `true`"),
             ("(role a)\n" + "(" * 70_000, "line 2, column 65: lists are nested more than 64 deep"),
             ("(role a)\n(<= p " + "(not " * 70_000 + "q" + ")" * 70_001, "line 2, column 322: lists are nested more than 64 deep"),
         ):

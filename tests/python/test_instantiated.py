@@ -98,7 +98,7 @@ class Seconds(InFolder):
         status, out, said = run(self.folder, "plan")
         self.assertEqual((status, out), (3, ""))
         self.assertIn("long.kif: ggp-instantiate: stopped after 1 s", said)
-        self.assertIn("; `instantiate` of the game gives it more time; nothing is changed\n", said)
+        self.assertIn("; `instantiate` of the game gives it more time; nothing was changed\n", said)
         self.assertFalse((self.folder / "rules").exists())
 
 

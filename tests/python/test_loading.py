@@ -13,7 +13,7 @@ from ggp_tools.referee import BadRules
 from support import InFolder, raised
 
 GROUND = b"; a comment\n(role x) (init a) (legal x m) (<= (next a) (true a)) (goal x 1)\n"
-DEPENDS = "legal depends on does: (<= (legal x ?m) (does x ?m)); let `next` keep what the moves did, and ask for that by `true`"
+DEPENDS = "legal depends on does: (<= (legal x ?m) (does x ?m)); let `next` record what the moves did, and read that with `true`"
 OPEN = b"(role x) (init a) (legal x m) (<= (next ?t) (true ?t)) (goal x 1)\n"
 
 

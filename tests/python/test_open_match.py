@@ -248,7 +248,7 @@ class Asking(WithMatch):
         self.assertEqual(self.slots.failed, {"ann": 0, "bob": 0})
         self.begin(f'{self.HEAD}absent = "play"\n')
         self.players_over("bob")
-        self.assertEqual(self.asked(READY, NO_ANSWER), (True, None, [f"silent {self.match.id}: bob has not answered INFO, and the match is played"]))
+        self.assertEqual(self.asked(READY, NO_ANSWER), (True, None, [f"silent {self.match.id}: bob did not answer INFO; the match is played anyway"]))
 
     def players_over(self, *names):
         self.open.players.is_over = lambda name: name in names
@@ -266,7 +266,7 @@ class Asking(WithMatch):
 
     def test_without_who_is_absent_it_is_played_where_that_is_wanted(self):
         head = 'tries = 1\nabsent = "play"\n'
-        self.assertEqual(self.asked(READY, NO_ANSWER, head=head), (True, None, [f"silent {self.match.id}: bob has not answered INFO, and the match is played"]))
+        self.assertEqual(self.asked(READY, NO_ANSWER, head=head), (True, None, [f"silent {self.match.id}: bob did not answer INFO; the match is played anyway"]))
         # A busy player is not missing.
         self.assertEqual(self.asked(info_of("busy"), NO_ANSWER, head=head), (False, "ann is busy", []))
         self.assertEqual(self.asked(READY, NO_ANSWER, head='tries = 2\nabsent = "play"\n'), (False, None, [f"back {self.match.id}: bob is silent"]))
@@ -322,7 +322,7 @@ class Checking(WithMatch):
         self.assertEqual(self.checked(is_replayed=False), ("its call log does not reproduce its record", []))
 
     def test_where_there_is_no_verdict_the_files_are_kept_aside(self):
-        short = Unchecked("`ggp_manager verify` came to no verdict: want of memory")
+        short = Unchecked("`ggp_manager verify` gave no verdict: want of memory")
         for number, name in enumerate(("verdict", "is_replayed"), 1):
             self.begin(self.HEAD)
             ending = ".unchecked" + f".{number}" * (number > 1)
@@ -336,7 +336,7 @@ class Checking(WithMatch):
         self.assertEqual(self.checked(other + self.account), ("its matchId is 'cup-009', and the schedule has 'cup-001'", []))
         self.begin(self.HEAD)
         other = self.account.replace(b"cup-001", b"cup-002")
-        self.assertEqual(self.checked(self.record + self.account + other), ("line 2 of its call log is of another match: 0 open cup-002 0 10 10 opened", []))
+        self.assertEqual(self.checked(self.record + self.account + other), ("line 2 of its call log belongs to another match: 0 open cup-002 0 10 10 opened", []))
 
     def log(self):
         return self.plan.folder.log("cup-001").read_text().removeprefix(OPENED)
@@ -374,7 +374,7 @@ class Checking(WithMatch):
 
         with mock.patch.object(open_match, "write_report", report):
             why, files = self.checked()
-        self.assertEqual(why, f"by the description of heap it differs: turn 1; it is kept as {self.plan.folder.records}/cup-001.json.differs; please report it, with report-cup-001.tar.gz")
+        self.assertEqual(why, f"compared with the description of heap it differs: turn 1; it is kept as {self.plan.folder.records}/cup-001.json.differs; please report it, with report-cup-001.tar.gz")
         self.assertEqual((files, self.open.stops_game), (self.kept(".differs"), True))
         self.assert_whole()
         self.assertEqual(reports, [("cup-001", {"description.kif": b"(p ?x)", "record.json": self.record, "account.txt": self.account, "words.txt": b"differs: turn 1\n"})])
@@ -401,7 +401,7 @@ class Jobs(WithMatch):
         self.job.left = 5
         asyncio.run(self.job.take_output(b"1234"))
         self.job.take_line(b"")
-        words = r"^it sent more than [0-9,]{11,} bytes, more than any match has$"
+        words = r"^it sent more than [0-9,]{11,} bytes, which is more than any match needs$"
         with self.assertRaisesRegex(Lost, words):
             asyncio.run(self.job.take_output(b"5"))
         with self.assertRaisesRegex(Lost, words):

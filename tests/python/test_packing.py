@@ -174,7 +174,7 @@ class Packing(InFolder):
             self.assertEqual(len(unpacked(tar_of({**FIRST, **of_match, **log, "cup/a": b"", "cup/records/x.json": b""}))), 8)
             with open(path, "wb") as file:
                 pack(file, [*FIRST.items(), *((f"cup/logs/{number}.jsonl", b"") for number in range(30))])
-            with self.assertRaisesRegex(Spoilt, "it has more than 4 files that are of no match of its schedule"):
+            with self.assertRaisesRegex(Spoilt, "it has more than 4 files that belong to no match of its schedule"):
                 unpack(path, self.folder)
         self.assertEqual(len([*(self.folder / "cup").rglob("*.*")]), 4)
         for name in (*of_match, *log):

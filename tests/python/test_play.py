@@ -133,7 +133,7 @@ class Play(InFolder):
         self.players[2].status = "busy"
         status, out, _ = run(self.folder, "play")
         self.assertEqual((status, len(lines(out, "end"))), (1, 2))
-        self.assertIn("nothing is published: 4 matches have no lawful record", run(self.folder, "publish")[2])
+        self.assertIn("nothing was published: 4 matches have no lawful record", run(self.folder, "publish")[2])
         file, nobody = self.folder / "competition.toml", TestPlayer("nobody")
         nobody.leave()
         text = file.read_text().replace(self.players[2].place(), nobody.place())
@@ -187,7 +187,7 @@ class Play(InFolder):
         for number in signals[:-1]:
             playing.send_signal(number)
             # If two signals come at the same time, the system may pass on only one.
-            while not out.endswith("ended by one more Ctrl-C\n"):
+            while not out.endswith("unless you press Ctrl-C again\n"):
                 out += playing.stdout.readline()
         playing.send_signal(signals[-1])
         rest, said = playing.communicate(timeout=600)
@@ -237,7 +237,7 @@ class Play(InFolder):
     def test_ctrl_c_at_the_terminal_does_not_end_a_check(self):
         playing, _, go = self.checking()
         os.killpg(playing.pid, signal.SIGINT)
-        next(line for line in playing.stdout if line.endswith("ended by one more Ctrl-C\n"))
+        next(line for line in playing.stdout if line.endswith("unless you press Ctrl-C again\n"))
         go.touch()
         out, said = playing.communicate(timeout=600)
         self.assertEqual((playing.returncode, said, out.splitlines()[-1]), (0, "", "1 of 1 matches have a lawful record"), out)
@@ -346,7 +346,7 @@ class Play(InFolder):
         self.planned(["good"] * 3)
         (self.folder / "play.log").symlink_to("/dev/full")
         status, out, _ = run(self.folder, "play", "--at-once", "1")
-        told = ["play.log can't be written, and no more matches begin: No space left on device"]
+        told = ["play.log can't be written: No space left on device; no more matches begin"]
         self.assertEqual((status, lines(out, "play.log"), [player.matches for player in self.players]), (1, told, [{}] * 3), out)
         (self.folder / "play.log").unlink()
         self.assertEqual(run(self.folder, "play")[0], 0)
@@ -427,12 +427,12 @@ class Play(InFolder):
         before = self.files()
         short = "echo 'ggp_manager: want of memory' >&2; exit 3"
         shortages = [
-            ('"$1 $2" = "verify --lines"', short, "`ggp_manager verify` came to no verdict with rules/countdown.kif: want of memory; it ended with status 3"),
-            ('"$1" = verify', "kill -9 $$", "`ggp_manager verify` came to no verdict with rules/countdown.kif: it said nothing; it was killed by signal 9 (SIGKILL)"),
-            ('"$1" = verify', "echo lawful; exit 0", "`ggp_manager verify` came to no verdict with rules/countdown.kif: it said nothing; it ended with status 0"),
+            ('"$1 $2" = "verify --lines"', short, "`ggp_manager verify` gave no verdict for rules/countdown.kif: want of memory; it ended with status 3"),
+            ('"$1" = verify', "kill -9 $$", "`ggp_manager verify` gave no verdict for rules/countdown.kif: it printed nothing; it was killed by signal 9 (SIGKILL)"),
+            ('"$1" = verify', "echo lawful; exit 0", "`ggp_manager verify` gave no verdict for rules/countdown.kif: it printed nothing; it ended with status 0"),
             ('"$1" = verify', "cat > /dev/null; echo 'ggp_manager: input too long' >&2; exit 1", "input too long; it ended with status 1"),
             ('"$1" = verify', f"{program()} \"$@\"; echo 'ggp_manager: read fault' >&2; exit 1", "read fault; it ended with status 1"),
-            ('"$1" = replay', "kill -9 $$", "`ggp_manager replay` came to no verdict with rules/countdown.kif: it said nothing; it was killed by signal 9 (SIGKILL)"),
+            ('"$1" = replay', "kill -9 $$", "`ggp_manager replay` gave no verdict for rules/countdown.kif: it printed nothing; it was killed by signal 9 (SIGKILL)"),
             ('"$1" = replay', short, "want of memory; it ended with status 3"),
         ]
         for at, (asked, done, words) in enumerate(shortages):
@@ -441,7 +441,7 @@ class Play(InFolder):
                 with self.subTest(f"{command}: {asked}: {done}"):
                     status, out, said = run(self.folder, command, "--program", short_one)
                     self.assertEqual((status, out), (3, ""), said)
-                    self.assertRegex(said, r"^ggp_competition: `ggp_manager (verify|replay)` came to no verdict [^\n]*; nothing is changed\n$")
+                    self.assertRegex(said, r"^ggp_competition: `ggp_manager (verify|replay)` gave no verdict [^\n]*; nothing was changed\n$")
                     self.assertIn(words, said)
                     self.assertEqual(self.files(), before)
         self.assertEqual(run(self.folder, "play")[:2], (0, "6 of 6 matches have a lawful record\n"))
@@ -499,7 +499,7 @@ class Play(InFolder):
         file.write_text(file.read_text().replace("play = 5", "play = 6"))
         status, _, said = run(self.folder, "plan")
         self.assertEqual(status, 2)
-        self.assertIn("the clocks of countdown were 5 and 5, and are 5 and 6: put back what was changed", said)
+        self.assertIn("the clocks of countdown were 5 and 5, and are now 5 and 6: undo the change", said)
 
     @unittest.skipIf(os.geteuid(), "only root can mount a small disk")
     def test_a_full_disk_costs_the_open_matches_alone(self):

@@ -250,7 +250,7 @@ class Going(WithMatches):
         may_begin = []
         self.go(cup_001=["playing", self.interrupt(1), "playing", won], cup_003=["playing", "playing", lambda match: may_begin.append(self.playing.may_begin(match.match)), won])
         self.assertEqual((sorted(self.begun()), sorted(self.playing.results), may_begin), (["cup-001", "cup-003"], ["cup-001", "cup-003"], [False]))
-        self.assertEqual(self.reporter.lines, ["no more matches begin; 2 matches are played to their ends, or ended by one more Ctrl-C"])
+        self.assertEqual(self.reporter.lines, ["no more matches begin; 2 matches are played to their ends, unless you press Ctrl-C again"])
 
     def test_a_match_whose_players_were_asked_when_it_came_waits_again(self):
         self.begin(at_once=1)
@@ -300,7 +300,7 @@ class Going(WithMatches):
     def test_without_a_journal_no_more_begin(self):
         self.begin(at_once=1)
         self.go(cup_001=[lambda match: setattr(self.reporter.journal, "fault", OSError(errno.ENOSPC, "full", "play.log")), won])
-        self.assertEqual((self.begun(), self.reporter.lines, self.playing.is_full), (["cup-001"], ["play.log can't be written, and no more matches begin: full"], True))
+        self.assertEqual((self.begun(), self.reporter.lines, self.playing.is_full), (["cup-001"], ["play.log can't be written: full; no more matches begin"], True))
 
     def test_with_a_launcher_as_many_begin_as_it_has_slots(self):
         self.begin(launcher=Launcher(("x",), 1))

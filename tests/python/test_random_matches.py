@@ -95,7 +95,7 @@ class Matches(WithDesk):
     def test_a_desk_that_says_nothing_of_it(self):
         line = json.dumps({}).encode() + b"\n"
         for answer in ({"returncode": 3}, {"stdout": b""}, {"stdout": line * 2}, {"stdout": b"{x\n"}):
-            self.assertIn("`ggp_manager desk` came to no verdict with game.kif: it said nothing", str(raised(Unchecked, self.play, RULES, **answer)))
+            self.assertIn("`ggp_manager desk` gave no verdict for game.kif: it printed nothing", str(raised(Unchecked, self.play, RULES, **answer)))
 
     def test_a_desk_that_takes_too_long(self):
         with mock.patch.object(random_matches.subprocess, "run", side_effect=subprocess.TimeoutExpired("x", 1)):

@@ -71,11 +71,11 @@ class Verdicts(WithStandIn):
     def test_an_answer_that_does_not_fit_is_no_verdict(self):
         lawful, wrong = verdict_rows(None), verdict_rows(None, "goals")
         for said, *answer in (
-            ("it said nothing; it ended with status 0", lawful), ("it said nothing; it ended with status 0", lawful * 3), ("it said nothing; it ended with status 1", lawful * 2, b"", 1),
+            ("it printed nothing; it ended with status 0", lawful), ("it printed nothing; it ended with status 0", lawful * 3), ("it printed nothing; it ended with status 1", lawful * 2, b"", 1),
             ("records not lawful 1; it ended with status 0", wrong, b"ggp_manager: records not lawful 1\n", 0), ("read fault; it ended with status 2", wrong, b"ggp_manager: read fault\n", 2),
             ("want of memory; it ended with status 3", lawful[:-3], b"more\nggp_manager: want of memory\n", 3),
         ):
-            self.assert_unchecked(f"`ggp_manager verify` came to no verdict with game.kif: {said}", self.verdicts, *answer)
+            self.assert_unchecked(f"`ggp_manager verify` gave no verdict for game.kif: {said}", self.verdicts, *answer)
 
 
 def replayed(records: int) -> bytes:
@@ -111,10 +111,10 @@ class Replays(WithStandIn):
     def test_an_answer_that_does_not_fit_is_no_verdict(self):
         whole = replayed(1) + b'{"a":1}\n' + replayed(1) + b'{"b":2}\n' + replayed(1) + b'{"c":3}\n'
         for said, *answer in (
-            ("it said nothing; it ended with status 0", replayed(1) + b'{"a":1}\n'), ("it said nothing; it ended with status 0", whole + replayed(0)),
+            ("it printed nothing; it ended with status 0", replayed(1) + b'{"a":1}\n'), ("it printed nothing; it ended with status 0", whole + replayed(0)),
             ("want of memory; it ended with status 3", whole, b"ggp_manager: want of memory\n", 3), ("read fault; it ended with status 2", whole[:-9], b"ggp_manager: read fault\n", 2),
         ):
-            self.assert_unchecked(f"`ggp_manager replay` came to no verdict with game.kif: {said}", self.replays, *answer)
+            self.assert_unchecked(f"`ggp_manager replay` gave no verdict for game.kif: {said}", self.replays, *answer)
 
     def test_records_stand_behind_the_verdict_on_their_account(self):
         refused = b'{"verdict":"differs","line":3}\n'
@@ -146,11 +146,11 @@ class Rules(WithStandIn):
         for said, *answer in (
             ("want of memory; it ended with status 3", b"", b"ggp_manager: want of memory\n", 3), ("bad; it ended with status 1", b"", b"ggp_manager: bad\n", 1),
         ):
-            self.assert_unchecked(f"`ggp_manager verify` came to no verdict with nim: {said}", lambda: self.referee.roles(b"", "nim"), *answer)
+            self.assert_unchecked(f"`ggp_manager verify` gave no verdict for nim: {said}", lambda: self.referee.roles(b"", "nim"), *answer)
 
     def test_rules_that_were_not_looked_at(self):
         answer = b"", b"ggp_manager: bad description: no such file\n", 2
-        said = "`ggp_manager verify` came to no verdict with game.kif: bad description: no such file; it ended with status 2"
+        said = "`ggp_manager verify` gave no verdict for game.kif: bad description: no such file; it ended with status 2"
         self.assert_unchecked(said, lambda: self.referee.check_rules("game.kif"), *answer)
         self.begin_anew()
         self.answers()
@@ -248,4 +248,4 @@ class Finding(InFolder):
 
     def test_where_it_is_nowhere_all_places_are_named(self):
         places = f"{self.folder}/python, {self.folder}/bin, {pathlib.Path(__file__).resolve().parents[2]}/bin"
-        self.assertEqual(str(raised(NoReferee, find_program, None)), f"ggp_manager is not in {places}, nor on the path of the shell (PATH); `--program FILE` names it")
+        self.assertEqual(str(raised(NoReferee, find_program, None)), f"ggp_manager is not in {places}, nor on the PATH of the shell; name it with `--program FILE`")

@@ -12,15 +12,15 @@ from ggp_tools.instantiating.making import NEVER, Making
 from ggp_tools.kif import Refused, told
 from ggp_tools.records.collection import game_of
 
-MOVES = "let `next` keep what the moves did, and ask for that by `true`"
+MOVES = "let `next` record what the moves did, and read that with `true`"
 REFUSED = [
     ("(role a)\n(init (p", "line 2, column 7: a list that is not closed; add a `)`"),
     ("(role a)\n (init p))", "line 2, column 10: a `)` with no open list; a sentence before it may have a `)` too many"),
     ("\xef\xbb\xbf(role a)", "line 1, column 1: a byte that is not a character of KIF: '\xef'; the file begins with a byte order mark: save it without one"),
-    ("\x1f\x8b\x08", "line 1, column 1: a byte that is not a character of KIF: '\\x1f'; the file is packed by gzip: unpack it"),
-    ("(role a)\n(<= (true p) (true q))", "line 2, column 1: (true p) is a head: (<= (true p) (true q)); `next` and `init` say what is true in a state"),
+    ("\x1f\x8b\x08", "line 1, column 1: a byte that is not a character of KIF: '\\x1f'; the file is compressed with gzip: decompress it"),
+    ("(role a)\n(<= (true p) (true q))", "line 2, column 1: (true p) can't be a head: (<= (true p) (true q)); `next` and `init` say what is true in a state"),
     ("(role a)\n; goals\n(goal a)", "line 3, column 1: (goal a) is not a sentence: (goal a); write (goal _ _)"),
-    ("(role a)\n(<= (legal a b) (next c))", "line 2, column 1: (next c) is in a body: (<= (legal a b) (next c)); ask for what is true in the state by `true`"),
+    ("(role a)\n(<= (legal a b) (next c))", "line 2, column 1: (next c) can't be in a body: (<= (legal a b) (next c)); use `true` for what is true in the state"),
     ("(role a) (<= (legal a b) (does a b))", f"line 1, column 10: legal depends on does: (<= (legal a b) (does a b)); {MOVES}"),
     ("(role a)\n(<= (p b) (does a b)) (<= (goal a 1) (p b))", None),
 ]

@@ -198,8 +198,8 @@ class ByRounds(unittest.TestCase):
         self.assertEqual(self.read().matches, plan.matches)
         self.assertEqual(sorted(file.name for file in self.folder.earlier.iterdir()), ["4.toml", "8.toml"])
         for count, form, head, words in (
-            (6, SWISS.format(2), "", "form.rounds was 3 and is 2"), (5, SWISS.format(3), "", "the player p5 is missing"),
-            (6, SWISS.format(3), "forfeit = true", "forfeit was false and is true"), (6, 'kind = "knockout"', "", "form.kind was 'swiss' and is 'knockout'"),
+            (6, SWISS.format(2), "", "form.rounds was 3 and is now 2"), (5, SWISS.format(3), "", "the player p5 is missing"),
+            (6, SWISS.format(3), "forfeit = true", "forfeit was false and is now true"), (6, 'kind = "knockout"', "", "form.kind was 'swiss' and is now 'knockout'"),
         ):
             self.write(count, form, head)
             self.assert_refused(words, self.make)
@@ -208,7 +208,7 @@ class ByRounds(unittest.TestCase):
         self.write(3, 'kind = "knockout"')
         self.play(self.make())
         self.write(4, 'kind = "knockout"')
-        self.assert_refused("the number of players was 3 and is 4", self.make)
+        self.assert_refused("the number of players was 3 and is now 4", self.make)
 
     def withdraw(self, *numbers):
         text = self.folder.competition.read_text()
@@ -360,12 +360,12 @@ class ByRounds(unittest.TestCase):
         self.assertFalse(self.folder.key.exists())
         self.folder.key.write_bytes(key)
         self.write(4, SWISS.format(3))
-        self.assert_refused("ids was 'random' and is 'counted'", self.make)
+        self.assert_refused("ids was 'random' and is now 'counted'", self.make)
         # The opposite change is refused too.
         self.folder.planned.write_bytes(self.folder.competition.read_bytes())
         self.folder.key.unlink()
         self.write(4, SWISS.format(3), 'ids = "random"')
-        self.assert_refused("ids was 'counted' and is 'random'", self.make)
+        self.assert_refused("ids was 'counted' and is now 'random'", self.make)
 
     def test_the_ids_of_another_competition_of_this_name_are_others(self):
         self.write(4, SWISS.format(2), 'ids = "random"')
@@ -397,7 +397,7 @@ class Refusals(unittest.TestCase):
         found = read_competition(toml([("ann", "h:1"), ("bob", "h:2"), ("cid", "h:3")], [("one", "f"), ("two", "f"), ("three", "f")], 'kind = "knockout"').encode())
         with self.assertRaises(Mistaken) as why:
             asked(found, {"one": 1, "two": 2, "three": 3})
-        words = ["the kind knockout is for games of two roles, and one has 1", "the kind knockout is for games of two roles, and three has 3"]
+        words = ["the kind knockout is for games of two roles, but one has 1", "the kind knockout is for games of two roles, but three has 3"]
         self.assertEqual([(mistake.line, mistake.words) for mistake in why.exception.mistakes], [(4, words[0]), (10, words[1])])
 
     def test_a_bracket_has_each_seed_once(self):

@@ -53,12 +53,12 @@ class Rules(InArchive):
         self.ran("publish")
         self.ran("check", "cup.tar.gz")
         assert_spoilt(self, files_of(self.folder / "cup.tar.gz"), {
-            "the rule is another": (changed("cup/competition.toml", lambda text: text.replace(b"replaced = 2", b"replaced = 3")), "faults.replaced was 2 and is 3"),
+            "the rule is another": (changed("cup/competition.toml", lambda text: text.replace(b"replaced = 2", b"replaced = 3")), "faults.replaced was 2 and is now 3"),
             "the reason is another": (changed("cup/matches.jsonl", lambda text: text.replace(b'"errors":["IL","IL"]', b'"errors":["IL","TO"]')), "matches.jsonl does not follow"),
         })
         text = (self.folder / "competition.toml").read_text()
         (self.folder / "competition.toml").write_text(text.replace("replaced = 2", "replaced = 1"))
-        self.assertIn("faults.replaced was 2 and is 1: put back what was changed", self.refused("plan"))
+        self.assertIn("faults.replaced was 2 and is now 1: undo the change", self.refused("plan"))
 
     def table(self):
         """Returns the lines of the table of all games by their players, and its notes."""
@@ -74,8 +74,8 @@ class Rules(InArchive):
             self.ran("plan")
             _ = self.ran("play") if rounds == 1 else None
         self.write([ann, bob, (*cid, 'withdrawn = "its disk is full"')], COUNTDOWN, form='kind = "round_robin"\nrounds = 2', head=HEAD)
-        self.assertEqual(self.ran("plan")[-1], "schedule.tsv: 12 matches of 3 players; nothing is added; 4 are not played, since a player has withdrawn")
-        self.assertEqual(self.ran("play")[-1], "8 of 8 matches have a lawful record; 4 are not played, since a player has withdrawn")
+        self.assertEqual(self.ran("plan")[-1], "schedule.tsv: 12 matches of 3 players; nothing added; 4 are not played, because a player has withdrawn")
+        self.assertEqual(self.ran("play")[-1], "8 of 8 matches have a lawful record; 4 are not played, because a player has withdrawn")
         lines, notes = self.table()
         self.assertEqual(([lines[name]["matches"] for name in ("ann", "bob", "cid")], notes[0]), ([6, 6, 4], "cid has withdrawn: its disk is full; the matches that it has played count"))
         self.ran("publish")
@@ -83,7 +83,7 @@ class Rules(InArchive):
         void = changed("cup/competition.toml", lambda text: b'withdrawn_results = "void"\n' + text)
         assert_spoilt(self, files_of(self.folder / "cup.tar.gz"), {
             "it has not withdrawn": (changed("cup/competition.toml", lambda text: text.replace(b"withdrawn = ", b"# ")), "earlier/12.toml asks for the same matches"),
-            "its matches do not count": (void, "withdrawn_results was 'keep' and is 'void'"),
+            "its matches do not count": (void, "withdrawn_results was 'keep' and is now 'void'"),
             "a match of another one is missing": (without("cup/records/cup-007.json"), "cup-007: it has no record"),
         })
         self.write(players, COUNTDOWN, form='kind = "round_robin"\nrounds = 2', head=HEAD)
@@ -155,7 +155,7 @@ class Rules(InArchive):
         self.new_folder()
         ann, bob = (f"{player.name}={player.place()}" for player in (TestPlayer("ann"), TestPlayer("bob")))
         words = "init", "cup", "--games", "countdown", "--swiss", "1", "--final", "2", "--players", f"{ann},{bob}"
-        self.assertEqual(self.ran(*words), ["cup/competition.toml: `ggp_competition plan cup` is next"])
+        self.assertEqual(self.ran(*words), ["cup/competition.toml: now run `ggp_competition plan cup`"])
         first = (self.folder / "cup/competition.toml").read_text()
         self.assertEqual(read_competition(first.encode()).absent, "play")
         self.assertIn("cup/competition.toml already exists", self.refused(*words))

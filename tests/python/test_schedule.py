@@ -148,15 +148,15 @@ class Schedule(unittest.TestCase):
         with self.assertRaises(Mistaken) as why:
             matches(2, 3, games=2)
         self.assertEqual([(mistake.key, mistake.words) for mistake in why.exception.mistakes],
-                         [("games.file", "g0 has 3 roles, and the competition has 2 players"), ("games.file", "g1 has 3 roles, and the competition has 2 players")])
+                         [("games.file", "g0 has 3 roles, but the competition has 2 players"), ("games.file", "g1 has 3 roles, but the competition has 2 players")])
         with self.assertRaises(Mistaken) as why:
             matches(3, 2, 'kind = "schedule"\nlines = ["g0 p1 p2",\n"g0 p1"]')
-        self.assertEqual([(mistake.line, mistake.words) for mistake in why.exception.mistakes], [(5, "g0 has 2 roles, and the line names 1 player")])
+        self.assertEqual([(mistake.line, mistake.words) for mistake in why.exception.mistakes], [(5, "g0 has 2 roles, but the line names 1 player")])
         with self.assertRaises(Mistaken):
             matches(1000, 2)
         for kind in ("swiss\"\nrounds = 1", "knockout\""):
             for roles in (1, 3):
                 with self.assertRaises(Mistaken) as why:
                     matches(4, roles, f'kind = "{kind}')
-                words = f"the kind {kind.partition(chr(34))[0]} is for games of two roles, and g0 has {roles}"
+                words = f"the kind {kind.partition(chr(34))[0]} is for games of two roles, but g0 has {roles}"
                 self.assertEqual([(mistake.key, mistake.words) for mistake in why.exception.mistakes], [("games.file", words)])

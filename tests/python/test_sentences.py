@@ -109,8 +109,8 @@ class Refusals(unittest.TestCase):
             ("(p (f (?g)))", "(?g) is not a term"), ("(or p q)", "(or p q) is not a sentence"), ("role", "role is not a sentence"), ("(legal r)", "(legal r) is not a sentence"),
             ("(goal r)", "(goal r) is not a sentence"), ("(<=)", "a rule without a head"), ("(<= p (or))", "(or) is not a sentence"),
             ("(<= p (distinct () b))", "() is not a term"), ("(<= p (distinct a ()))", "() is not a term"), ("(<= p (or q (not ())))", "() is not a term"),
-            ("(<= p (or (next a) q))", "(next a) is in a body"), ("(<= p (and () q))", "() is not a term"),
-            ("(<= p (init a))", "(init a) is in a body"), ("(<= p (not (next a)))", "(next a) is in a body"), ("(<= p ?x)", "?x is not a sentence"),
+            ("(<= p (or (next a) q))", "(next a) can't be in a body"), ("(<= p (and () q))", "() is not a term"),
+            ("(<= p (init a))", "(init a) can't be in a body"), ("(<= p (not (next a)))", "(next a) can't be in a body"), ("(<= p ?x)", "?x is not a sentence"),
         ):
             self.assert_refused(text, words)
 
@@ -118,8 +118,8 @@ class Refusals(unittest.TestCase):
         for text, words, advice in (
             ("(role a b)", "(role a b) is not a sentence", "write (role _)"), ("(terminal a)", "(terminal a) is not a sentence", "write terminal"),
             ("(<= p (distinct a))", "(distinct a) is not a sentence", "write (distinct _ _)"), ("(<= p (not))", "(not) is not a sentence", "write (not _)"),
-            ("(true p)", "(true p) is a head", "`next` and `init` say what is true in a state"), ("(does r m)", "(does r m) is a head", "`legal` says which moves there are"),
-            ("(<= p (next a))", "(next a) is in a body", "ask for what is true in the state by `true`"), ("(p ())", "() is not a term", ""),
+            ("(true p)", "(true p) can't be a head", "`next` and `init` say what is true in a state"), ("(does r m)", "(does r m) can't be a head", "`legal` says which moves there are"),
+            ("(<= p (next a))", "(next a) can't be in a body", "use `true` for what is true in the state"), ("(p ())", "() is not a term", ""),
             ("(p ?x)", "?x is unsafe: it occurs in no sentence of the body except negated ones", "add a condition with ?x that is not negated"),
         ):
             self.assertEqual(self.assert_refused(text, words), advice)

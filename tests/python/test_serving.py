@@ -722,7 +722,7 @@ class Command(InFolder):
 
     def test_connections_that_the_limit_of_open_files_cannot_take(self):
         few = {"preexec_fn": lambda: resource.setrlimit(resource.RLIMIT_NOFILE, (256, 256))}
-        self.assertIn("--connections 256 needs 320 open files, and the system allows 256", run(self.folder, "serve", "--port", "0", **few)[2])
+        self.assertIn("--connections 256 needs 320 open files, but the system allows only 256", run(self.folder, "serve", "--port", "0", **few)[2])
 
     def test_what_is_asked_wrong(self):
         for words in (("--port", "65536"), ("--port", "x"), ("--bind", "localhost"), ("--connections", "0"), ("--delay", "3601")):

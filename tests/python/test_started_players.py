@@ -168,7 +168,7 @@ def test_a_player_that_does_not_come_up_is_reported_with_the_end_of_its_log(tmp_
     run_for(ann, "cup-001", "cup-002")
     assert ann.reporter.lines == [
         f"down cup-001 ann: it ended with status 7; the end of {ann.log.path}:", *(f"down cup-001 ann: | line {number}" for number in range(3, 8)),
-        f"down cup-002 ann: it ended with status 7; {ann.log.path} ends as before",
+        f"down cup-002 ann: it ended with status 7; the end of {ann.log.path} is the same as before",
     ]
     ann = player(tmp_path / "other", "exec sleep 600", SILENT, start_seconds=1)
     process, = run_for(ann, "cup-001")
@@ -509,7 +509,7 @@ class Started(InFolder):
 
     def test_plan_names_the_players_that_run_as_the_same_user(self):
         self.planned()
-        words = "players that run as you, and can read and change all that you can: "
+        words = "players that run as your user, and can read and change everything that you can: "
         self.assertIn(f"{words}ann, bob\n", run(self.folder, "plan")[1])
         file = self.folder / "competition.toml"
         file.write_text(file.read_text().replace("start_seconds = 600", 'launcher = ["env"]', 1))

@@ -93,7 +93,7 @@ class Told(InFolder):
             self.assertEqual([player.told[match] for player in self.players], [told[game]] * 2, match)
         self.assertEqual({error for record in self.records().values() for turn in record["errors"] for error in turn}, {""})
         self.tell_otherwise()
-        self.assert_refused("player_rules of nim was 'variables' and is 'ground': put back what was changed", "plan")
+        self.assert_refused("player_rules of nim was 'variables' and is now 'ground': undo the change", "plan")
         (self.folder / "competition.toml").write_text(toml([(player.name, player.place()) for player in self.players], GAMES_WITH_PLAYER_RULES, head=HEAD))
         self.assertEqual(run(self.folder, "publish")[0], 0)
         self.look_at_pages()
@@ -118,7 +118,7 @@ class Told(InFolder):
         # The next match may have begun while the first one was being checked.
         stopped = next(line for line in out.splitlines() if line.startswith("stopped nim, because "))
         first = next(match for match in wrongly if match in stopped)
-        words = f"no record {first}: by the description of nim it differs: "
+        words = f"no record {first}: compared with the description of nim it differs: "
         self.assertIn(words, out)
         self.assertIn("gives 100; it is kept as ", out)
         report = self.folder / f"report-{first}.tar.gz"

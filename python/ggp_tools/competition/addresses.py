@@ -63,9 +63,9 @@ def refusal(place: Place) -> str:
             probe.connect((place[0].partition("%")[0], place[1], 0, int(address.scope_id)) if by_interface else place)
     except OSError as error:
         if error.errno == errno.EACCES:
-            return "the system refuses connections to it, as to a broadcast address"
+            return "the system refuses connections to it, for example because it is a broadcast address"
         if by_interface and error.errno == errno.ENETUNREACH:
-            return "this interface reaches no link-local address"
+            return "this interface can't reach link-local addresses"
     return ""
 
 

@@ -254,7 +254,7 @@ def compared_matches(plan: Plan, results: list[Result], folder: pathlib.Path) ->
         for match, line in zip(matches, compared_side_by_side(file, [plan.folder.record(match.id).read_bytes() for match in matches])):
             count += line.startswith(IS_SAME)
             if line.startswith(DIFFERS):
-                faults.append(f"{match.id}: by games/{game.name}.kif it {line}")
+                faults.append(f"{match.id}: compared with games/{game.name}.kif it {line}")
             elif not line.startswith(IS_SAME):
                 not_followed.append(f"{match.id} {line}")
     remark = f"; {counted(count, 'match', 'is that', 'are those')} of descriptions with variables" if count or not_followed else ""

@@ -42,7 +42,7 @@ could not check the files, for example because memory is short; no file of a mat
 
 
 def add_program(parser: argparse.ArgumentParser, **more: object) -> None:
-    text = "the referee, ggp_manager (the one next to this program, in bin of the repository, or on the path of the shell)"
+    text = "the referee, ggp_manager (the one next to this program, in bin of the repository, or on the PATH of the shell)"
     parser.add_argument("--program", metavar="FILE", help=text, **more)
 
 
@@ -62,12 +62,12 @@ def add_options(command: argparse.ArgumentParser, name: str) -> None:
         add("match", metavar="MATCH", help="the id of the match")
         add("player", nargs="?", metavar="PLAYER", help="the name of a player (all of the match)")
     elif name == "table":
-        add("folder", nargs="*", default=["."], metavar="DIRECTORY", help=f"{DIRECTORY}; prints one table of several")
+        add("folder", nargs="*", default=["."], metavar="DIRECTORY", help=f"{DIRECTORY}; several directories give one table")
         add("--to", metavar="DIRECTORY", help="where to write the files of a table of several competitions")
     else:
         add("folder", nargs="?", default=".", metavar="DIRECTORY", help=DIRECTORY)
     if name == "again":
-        add("match", metavar="MATCH", help="the match, which has a lawful record")
+        add("match", metavar="MATCH", help="the id of a match that has a lawful record")
         add("--reason", required=True, metavar="TEXT", help="the reason, for the table, the pages and the archive")
     if name == "plan":
         add("--preview", action="store_true", help="print the matches that it would add, or those of the next round, and write nothing")
@@ -162,9 +162,9 @@ def print_plan(plan: Plan) -> None:
         for note in plan.rules[game.name].notes:
             say(f"{game.name}: {note}")
     if plan.competition.forfeit and not plan.competition.strikes:
-        say("forfeit: without `strikes` no player is retired, so none loses a match by it")
+        say("forfeit: without `strikes` no player is retired, so `forfeit` has no effect")
     if same_user := [player.name for player in plan.competition.players if player.command and not player.command.launcher]:
-        say(f"players that run as you, and can read and change all that you can: {', '.join(same_user)}")
+        say(f"players that run as your user, and can read and change everything that you can: {', '.join(same_user)}")
     if plan.rounds:
         say(round_words(plan))
     say(f"{plan.folder.schedule}: {counted(len(plan.matches), 'match')} of {counted(len(plan.competition.players), 'player')}{growth(plan)}{not_played(plan)}")
@@ -173,7 +173,7 @@ def print_plan(plan: Plan) -> None:
 def not_played(plan: Plan) -> str:
     """Returns how many matches are not played because a player has withdrawn."""
     count = sum(bool(match.withdrawn) and not plan.folder.record(match.id).exists() for match in plan.matches)
-    return f"; {count} {'is' if count == 1 else 'are'} not played, since a player has withdrawn" if count else ""
+    return f"; {count} {'is' if count == 1 else 'are'} not played, because a player has withdrawn" if count else ""
 
 
 def growth(plan: Plan) -> str:
@@ -181,11 +181,11 @@ def growth(plan: Plan) -> str:
     if plan.known is None:
         return ""
     new = plan.new_matches()
-    return f"; added: {len(new)}, {new[0].id} to {new[-1].id}" if new else "; nothing is added"
+    return f"; added: {len(new)}, {new[0].id} to {new[-1].id}" if new else "; nothing added"
 
 
 def run_init(asked: argparse.Namespace, referee: Referee) -> int:
-    say(f"{write_first_file(asked)}: `ggp_competition plan {asked.folder}` is next")
+    say(f"{write_first_file(asked)}: now run `ggp_competition plan {asked.folder}`")
     return 0
 
 
@@ -258,7 +258,7 @@ def play_planned(plan: Plan, asked: argparse.Namespace, referee: Referee) -> int
 def run_table(asked: argparse.Namespace, referee: Referee) -> int:
     """Prints and writes the table of a competition, or one table of several."""
     if asked.to and len(asked.folder) == 1:
-        raise Refused("--to: only the table of several directories is written elsewhere")
+        raise Refused("--to: only a table of several directories can be written elsewhere")
     plans = [read_plan(folder, referee) for folder in asked.folder]
     plan, known = joined(plans), [Known(plan.folder.path) for plan in plans]
     checked = [known_results(plan, referee, facts) for plan, facts in zip(plans, known)]
@@ -291,15 +291,15 @@ def archive_path(plan: Plan, to: str | None) -> pathlib.Path:
     """Returns the path of the archive. Refuses a missing directory, a file that is not an archive, and the directories of the competition."""
     path = pathlib.Path(to or plan.folder.path / f"{plan.competition.name}.tar.gz")
     if path.exists() and not path.is_file():
-        raise Refused(f"{path} is not a regular file: `--to` names the file of the archive")
+        raise Refused(f"{path} is not a regular file: `--to` must name the file of the archive")
     if not path.parent.is_dir():
         raise Refused(f"{path} can't be written: {path.parent} is not a directory")
     top, parent = os.path.realpath(plan.folder.path), os.path.realpath(path.parent)
     if parent.startswith(os.path.join(top, "")):
-        place = f"directly in {plan.folder.path}, or outside of it"
-        raise Refused(f"{path} is among the files of the competition: `--to` names a file {place}")
+        place = f"directly in {plan.folder.path}, or outside it"
+        raise Refused(f"{path} is among the files of the competition: `--to` must name a file {place}")
     if path.exists() and file_bytes(path, len(PACKED)) != PACKED:
-        raise Refused(f"{path} exists and is not an archive: `--to` names the file of the archive")
+        raise Refused(f"{path} exists and is not an archive: `--to` must name the file of the archive")
     return path
 
 
@@ -330,7 +330,7 @@ def publish_planned(asked: argparse.Namespace, referee: Referee) -> int:
         except TooLarge as why:
             faults = [str(why)]
     for fault in faults:
-        print(f"ggp_competition: nothing is published: {fault}", file=sys.stderr)
+        print(f"ggp_competition: nothing was published: {fault}", file=sys.stderr)
     return bool(faults)
 
 
@@ -364,10 +364,10 @@ def check_one(archive: str, referee: Referee) -> bool:
 COMMANDS = {
     "init": ("writes a first competition.toml with comments, from options or answers", run_init),
     "plan": ("writes the rules and schedule.tsv, as competition.toml says", run_plan),
-    "again": ("has a match played again: the new one counts, and both are kept", run_again),
+    "again": ("orders a rematch: only the new match counts, and the files of both are kept", run_again),
     "play": ("plays the matches that have no lawful record yet; plans them first if competition.toml is new or has changed", run_play),
     "table": ("prints the table, and writes it as table.txt, table.csv, crosstable.csv and table.json", run_table),
-    "pages": ("writes the directory `pages` for a browser", run_pages),
+    "pages": ("writes the pages for a browser to the directory `pages`", run_pages),
     "publish": ("writes an archive of the whole competition, with checksums", run_publish),
     "serve": ("serves live pages of the matches, the standings and the players to browsers, read only", run_serve),
     "why": ("explains what happened to the players of a match, turn by turn, with the times", run_why),
@@ -388,7 +388,7 @@ def main() -> int:
         print(f"ggp_competition: {why}" if "\n" not in str(why) else why, file=sys.stderr)
         return 2
     except Unchecked as why:
-        print(f"ggp_competition: {why}; nothing is changed", file=sys.stderr)
+        print(f"ggp_competition: {why}; nothing was changed", file=sys.stderr)
         return 3
     except KeyboardInterrupt:
         print("ggp_competition: interrupted", file=sys.stderr)

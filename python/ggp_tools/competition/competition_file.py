@@ -91,7 +91,7 @@ def spelled(value: object) -> str:
         return shown(repr(value), MOST_SHOWN)
     except ValueError:
         # Python does not convert numbers of more than 4,300 digits.
-        return "a number of many digits"
+        return "a number with very many digits"
 
 
 def is_address(text: str) -> bool:

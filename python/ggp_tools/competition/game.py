@@ -98,8 +98,8 @@ def load(path: pathlib.Path, text: bytes, referee: Referee, limit: int) -> Rules
         *more, last = str(why).splitlines()
         if NO_VERDICT.fullmatch(last):
             # The message is the same if the grounder was killed.
-            last = f"{last}, or was ended" if "gringo took" in last else last
-            raise Unchecked(f"ggp-instantiate came to no verdict with {path}: {'; '.join([last, *more])}") from None
+            last = f"{last}, or was killed" if "gringo took" in last else last
+            raise Unchecked(f"ggp-instantiate gave no verdict for {path}: {'; '.join([last, *more])}") from None
         raise
 
 
@@ -161,12 +161,12 @@ def report_matches(reporter: Reporter, asked: argparse.Namespace, referee: Refer
                 reporter.line(goals)
         report_figures(reporter, rules.roles, ended)
     if played.uncompared:
-        reporter.line(f"the program had not played {played.uncompared:,} of them after {asked.seconds:,} s: their records are not compared")
+        reporter.line(f"the program had not played {played.uncompared:,} of them after {asked.seconds:,} s, so their records were not compared")
     if played.too_long:
         have = "has" if played.too_long == 1 else "have"
-        reporter.line(f"{played.too_long:,} of them {have} a move that no player can make: their records are not compared")
+        reporter.line(f"{played.too_long:,} of them {have} a move that no player can make, so their records were not compared")
     for number, keys in played.differing:
-        reporter.line(f"seed {number}: the program's record is not that of {INTERPRETER}, by {' and '.join(keys)}: please report it")
+        reporter.line(f"seed {number}: the program's record differs from that of {INTERPRETER} in {' and '.join(keys)}: please report it")
     return bool(aborted or played.differing or not (ended or played.is_too_deep))
 
 
@@ -205,12 +205,12 @@ def trial(rules: bytes, referee: Referee, name: str) -> tuple[str | None, str | 
             if not played.ended[-1].cause:
                 return None, None
     except TimeIsOver:
-        return None, f"no random match of it came to its end in {TRIAL_SECONDS} s; `ggp_competition game` tries longer"
+        return None, f"no random match of it ended within {TRIAL_SECONDS} s; `ggp_competition game` tries longer"
     except RecursionError:
-        return None, "it was not tried: its rules ask for one another too deeply"
+        return None, "it was not tested: its rules depend on one another too deeply"
     finally:
         reporter.clear()
     causes = ", ".join(dict.fromkeys(match.cause for match in played.ended))
     if all(match.turns == 0 for match in played.ended):
-        return f"no match of it can begin: at the start it is aborted with `{causes}`", None
+        return f"no match of it can begin: it is aborted at the start with `{causes}`", None
     return f"all of {TRIAL_MATCHES} random matches were aborted, with `{causes}`", None

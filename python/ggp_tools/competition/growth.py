@@ -95,17 +95,17 @@ def refuse_changes(before: Competition, after: Competition) -> None:
     now = fixed(after) | {"withdrawn_results": after.withdrawn_results}
     for key, old in fixed(before).items():
         if old != now.get(key, old):
-            raise Misfit(f"{key} was {spelled(old)} and is {spelled(now[key])}", after.line_of(*key.split(".")))
+            raise Misfit(f"{key} was {spelled(old)} and is now {spelled(now[key])}", after.line_of(*key.split(".")))
     if after.form.kind == SWISS and after.form.rounds < before.form.rounds:
-        raise Misfit(f"form.rounds was {before.form.rounds} and is {after.form.rounds}", after.line_of("form", "rounds"))
+        raise Misfit(f"form.rounds was {before.form.rounds} and is now {after.form.rounds}", after.line_of("form", "rounds"))
     games = {game.name: game for game in after.games}
     for old in before.games:
         if not (game := games.get(old.name)):
             raise Misfit(f"the game {old.name} is missing")
         if (game.start, game.play) != (old.start, old.play):
-            raise Misfit(f"the clocks of {game.name} were {old.start} and {old.play}, and are {game.start} and {game.play}", game.line)
+            raise Misfit(f"the clocks of {game.name} were {old.start} and {old.play}, and are now {game.start} and {game.play}", game.line)
         if game.player_rules != old.player_rules:
-            raise Misfit(f"player_rules of {game.name} was {old.player_rules!r} and is {game.player_rules!r}", game.player_rules_line)
+            raise Misfit(f"player_rules of {game.name} was {old.player_rules!r} and is now {game.player_rules!r}", game.player_rules_line)
     if gone := new_players(after, before):
         raise Misfit(f"the player {gone[0]} is missing")
     if back := [name for name in before.withdrawn() if name not in after.withdrawn()]:
@@ -152,7 +152,7 @@ class Growing:
         found, new = [], set(new_players(before, after))
         shared = {game.name for game in before.games if new and self.roles[game.name] > 2 and after.form.lines == ()}
         if shared and before.form.rounds != after.form.rounds:
-            raise Misfit(f"{min(shared)} has more than two roles, so add rounds and players one after the other, and plan in between")
+            raise Misfit(f"{min(shared)} has more than two roles, so add rounds and players separately, and run `plan` in between")
         for game, players in self.asked:
             if game in shared:
                 found += [(game, players)] if new.intersection(players) else []

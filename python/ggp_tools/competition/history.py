@@ -67,7 +67,7 @@ def earlier_files(folder: Folder, *new: int) -> list[Path]:
             raise Refused(f"{file} is not one of the earlier files of the competition")
     sizes = [*(file.stat().st_size for file in found), *new]
     if len(sizes) > MOST_EARLIER or sum(sizes) > MOST_OF_EARLIER:
-        words = f"{folder.earlier}: expected at most {MOST_EARLIER:,} files with {MOST_OF_EARLIER:,} bytes together"
+        words = f"{folder.earlier}: expected at most {MOST_EARLIER:,} files with {MOST_OF_EARLIER:,} bytes in total"
         raise Refused(f"{words}, found {len(sizes):,} with {sum(sizes):,}", "the schedule can't grow any more; begin another competition")
     return sorted(found, key=lambda file: int(file.stem))
 

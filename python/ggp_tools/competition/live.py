@@ -42,7 +42,7 @@ SHARE, READING = 10, 1.0
 LISTS = 5
 # The board of a match stays for this many seconds after its end.
 STAYS = 60
-FAULT = "these pages may show wrong data of this match because of an error in ggp_competition: {!r}"
+FAULT = "these pages may show wrong data for this match because of an error in ggp_competition: {!r}"
 # The rows of `play.log` about a player that was restarted, a match that was given up, and a run that began.
 RESTARTED = re.compile(rf"{MOMENT} restart (\S+) (\S+): .*\n")
 GIVEN_UP = re.compile(rf"{MOMENT} (?:no record|missing) (\S+): (?!{NOT_BEGUN}\n)(.*)\n")

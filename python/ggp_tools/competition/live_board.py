@@ -17,7 +17,7 @@ MOST_STATES, MOST_TURNS = 30, 50
 ENDING = "stopping", "aborting", "finished", "aborted"
 NO_LINE = "the log lacks a line, so the state is not known from here on"
 TOO_LONG = "the answers are too long for a script of the referee, so the state is not known from here on"
-NO_VERDICT = "the referee came to no verdict, so the state may be an earlier one"
+NO_VERDICT = "the referee gave no verdict, so this may be an earlier state"
 COMMENT = re.compile(rb";[^\n]*")
 # Sent to the desk instead of an answer that is too long to be a move.
 NO_MOVE = b")"

@@ -29,7 +29,7 @@ WHOLE, SOON = 10, 1
 FREE = ("available", "ready", "unknown")
 # A launcher may send at most this many bytes before a match, and the log has at most this many for each message, besides the texts of the message.
 MOST_BEFORE, MOST_OF_MESSAGE = 1 << 20, 1 << 10
-TOO_MUCH = "it sent more than {:,} bytes, more than any match has"
+TOO_MUCH = "it sent more than {:,} bytes, which is more than any match needs"
 # The players of a match that was lost with its node must answer ABORT within this many seconds.
 ABORT_SECONDS = 5
 EVENT = b'{"event":'
@@ -145,7 +145,7 @@ class OpenMatch:
             self.reporter.line(f"back {self.match.id}: {reason}")
         else:
             for name in missed:
-                self.reporter.line(f"silent {self.match.id}: {name} has not answered INFO, and the match is played")
+                self.reporter.line(f"silent {self.match.id}: {name} did not answer INFO; the match is played anyway")
         return not given_up and not again
 
     def run_words(self, log: pathlib.Path | str) -> list[str]:
@@ -284,7 +284,8 @@ def check_match(plan: Plan, referee: Referee, match: Match, output: bytes, log: 
         file = keep(plan.folder, match.id, record, account, log, "differs")
         files = {"description.kif": description, "record.json": record, "account.txt": account, "words.txt": f"{comparison}\n".encode("ascii", "replace")}
         report = write_report(plan, match, files)
-        return Checked(None, f"by the description of {match.game} it {comparison}; it is kept as {file}; please report it, with {report}", True)
+        why = f"compared with the description of {match.game} it {comparison}; it is kept as {file}; please report it, with {report}"
+        return Checked(None, why, True)
     if comparison:
         why_not = None if comparison.startswith(IS_SAME) else printable(comparison.removeprefix(IS_NOT_FOLLOWED))
         log += line_of(Other("held", {"match": match.id, "reason": why_not}))

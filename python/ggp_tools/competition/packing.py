@@ -146,7 +146,7 @@ def unpack(path: pathlib.Path, empty: pathlib.Path) -> pathlib.Path:
                     raise Spoilt(f"it does not begin with {' and '.join(FIRST)}")
                 others += not is_of_match(name, own, ids, folder)
                 if others > OTHER_FILES:
-                    raise Spoilt(f"it has more than {OTHER_FILES:,} files that are of no match of its schedule")
+                    raise Spoilt(f"it has more than {OTHER_FILES:,} files that belong to no match of its schedule")
                 if own > most_of_file(name):
                     raise Spoilt(f"{name} has more than {most_of_file(name):,} bytes, the limit of such a file in an archive")
                 if size > MOST_BYTES:

@@ -27,7 +27,7 @@ ONLY_SUMS = re.compile(rb"(?:[0-9a-f]{64}  [^\n]+\n)*")
 # The file of another competition's table, from which the seeds are read.
 TABLE = "table.csv"
 WRITES = "`ggp_competition plan` writes it"
-PUT_BACK = "put back what was changed: once matches were played, the plan only grows"
+PUT_BACK = "undo the change: once matches have been played, the plan can only grow"
 
 
 @dataclass
@@ -141,7 +141,7 @@ def files_of_origin(plan: Plan) -> list[Path]:
 
 def refused_plan(folder: Folder, path: Path) -> Unplanned:
     """Returns the error for a file that `plan` has written for another competition.toml."""
-    advice = "matches were played, so put back what was changed, or add to it and plan again" if is_played(folder) else f"{WRITES} anew"
+    advice = "matches have already been played, so undo the change, or only add to the file and plan again" if is_played(folder) else f"{WRITES} anew"
     return Unplanned(f"{path} does not agree with {folder.competition}", advice)
 
 
@@ -292,7 +292,7 @@ def write_plan(folder: Folder, is_begun: bool, files: dict[Path, bytes]) -> None
     """Writes the files of a plan. Once matches have been played, they may only grow; missing ones are written again."""
     for file, data in files.items():
         if is_begun and file.exists() and not grows(folder, file, read_file(file), data):
-            raise Refused(f"{file} would change, but matches have already been played", "put back what was changed, or use another directory")
+            raise Refused(f"{file} would change, but matches have already been played", "undo the change, or use another directory")
     try:
         folder.make(folder.rules, *([folder.earlier] if any(file.parent == folder.earlier for file in files) else []))
         # The schedule is last, so that it never exists without its rules.
@@ -338,7 +338,7 @@ def read_rules(folder: Folder, competition: Competition, referee: Referee) -> di
         try:
             rules[game.name] = rules_of(texts[0], files[0], referee.taking(game.large), *texts[1:])
         except NoDescription as why:
-            raise Refused(f"{files[0]} is refused by the referee: {why}") from None
+            raise Refused(f"the referee refuses {files[0]}: {why}") from None
     return rules
 
 

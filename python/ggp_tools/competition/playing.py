@@ -132,7 +132,7 @@ class Playing:
             self.interrupts = 1
         if (fault := self.reporter.journal.fault) and not self.is_full:
             self.is_full = True
-            self.reporter.line(f"{fault.filename} can't be written, and no more matches begin: {fault.strerror}")
+            self.reporter.line(f"{fault.filename} can't be written: {fault.strerror}; no more matches begin")
         return bool(self.open or self.waiting and self.may_begin())
 
     async def wait_for_news(self) -> None:
@@ -168,7 +168,7 @@ class Playing:
         if self.interrupts == 1:
             playing = sum(open_match.stage == PLAYING for open_match in self.open)
             ends = counted(playing, "match", "is played to its end", "are played to their ends")
-            self.reporter.line(f"no more matches begin; {ends}, or ended by one more Ctrl-C")
+            self.reporter.line(f"no more matches begin; {ends}, unless you press Ctrl-C again")
         elif before < 2 and self.open:
             self.group.create_task(self.end_open_matches())
 

@@ -139,9 +139,9 @@ def fault_of_record(record: dict, match: Match, strikes: int) -> str | None:
         if record.get(key) != value:
             source = "competition.toml" if key == "strikes" else "the schedule"
             actual = repr(record.get(key))
-            return f"its {key} is {actual[:MOST_CITED]}{'..' * (len(actual) > MOST_CITED)}, and {source} has {value!r}"
+            return f"its {key} is {actual[:MOST_CITED]}{'..' * (len(actual) > MOST_CITED)}, but {source} has {value!r}"
     if len(record["moves"]) > MOST_TURNS:
-        return f"it has {len(record['moves']):,} turns, and a match has at most {MOST_TURNS:,}"
+        return f"it has {len(record['moves']):,} turns, but a match can have at most {MOST_TURNS:,}"
     if not all(0 <= goal <= FULL_GOAL for goal in record["goalValues"]):
         return f"one of its goals is not from 0 to {FULL_GOAL}"
     return None if record["phase"] in ("finished", "aborted") else f"its match is not over: {record['phase']}"

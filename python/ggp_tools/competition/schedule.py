@@ -108,15 +108,15 @@ def refuse_numbers(competition: Competition, roles: Mapping[str, int]) -> None:
     for line in form.lines:
         name, *players = line.text.split()
         if len(players) != roles[name]:
-            words = f"{name} has {counted(roles[name], 'role')}, and the line names {counted(len(players), 'player')}"
+            words = f"{name} has {counted(roles[name], 'role')}, but the line names {counted(len(players), 'player')}"
             mistakes.append(Mistake(line.line, "form.lines", words))
     for game in competition.games if form.kind != "schedule" else ():
         of_game = roles[game.name]
         if form.kind in ROUND_KINDS and of_game != 2:
-            words = f"the kind {form.kind} is for games of two roles, and {game.name} has {of_game}"
+            words = f"the kind {form.kind} is for games of two roles, but {game.name} has {of_game}"
             mistakes.append(Mistake(game.line, "games.file", words))
         elif of_game > count:
-            words = f"{game.name} has {counted(of_game, 'role')}, and the competition has {counted(count, 'player')}"
+            words = f"{game.name} has {counted(of_game, 'role')}, but the competition has {counted(count, 'player')}"
             mistakes.append(Mistake(game.line, "games.file", words))
     if mistakes:
         raise Mistaken(mistakes)

@@ -54,7 +54,7 @@ def add_serve(command: argparse.ArgumentParser) -> None:
     command.add_argument("--bind", type=address, default="127.0.0.1", metavar="ADDRESS", help=text)
     text = "accept at most N connections at the same time (256)"
     command.add_argument("--connections", type=whole(1, MOST_CONNECTIONS), default=256, metavar="N", help=text)
-    text = "show everything this many seconds late (0)"
+    text = "delay everything that the pages show by this many seconds (0)"
     command.add_argument("--delay", type=whole(0, MOST_DELAY), default=0, metavar="SECONDS", help=text)
     text = "also answer requests for this host name, for example that of a proxy; can be given several times"
     command.add_argument("--host", type=HOST, action="append", default=[], metavar="NAME", help=text)
@@ -65,7 +65,8 @@ def add_serve(command: argparse.ArgumentParser) -> None:
 
 def run_serve(asked: argparse.Namespace, referee: Referee) -> int:
     if (most := allow_files()) < asked.connections + OTHER_FILES:
-        raise Refused(f"--connections {asked.connections} needs {asked.connections + OTHER_FILES} open files, and the system allows {most} (ulimit -n)")
+        needed = asked.connections + OTHER_FILES
+        raise Refused(f"--connections {asked.connections} needs {needed} open files, but the system allows only {most} (ulimit -n)")
     stamp = plan_stamp(Folder(asked.folder))
     site = LiveSite(read_plan(asked.folder, referee), referee, lambda: read_plan(asked.folder, referee), stamp, asked.delay)
     site.update()

@@ -121,7 +121,8 @@ class StartedPlayer:
         """Reports that the player did not start, with the last lines of its log unless they were reported before."""
         last, before = self.log.last_lines(), self.reported_lines
         self.reported_lines = last
-        end = f"it wrote nothing to {self.log.path}" if not last else f"the end of {self.log.path}:" if last != before else f"{self.log.path} ends as before"
+        path = self.log.path
+        end = f"it wrote nothing to {path}" if not last else f"the end of {path}:" if last != before else f"the end of {path} is the same as before"
         self.reporter.line(f"down {match} {self.name}: {self.with_restart(why)}; {end}")
         for line in last if last != before else ():
             self.reporter.line(f"down {match} {self.name}: | {line}")

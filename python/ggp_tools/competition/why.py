@@ -192,7 +192,7 @@ class Explanation:
         who = ", ".join(f"{player} is {role}" for player, role in zip(match.players, self.roles))
         strikes, most = self.plan.competition.strikes, self.plan.competition.faults.replaced
         more = f", retired after {counted(strikes, 'turn')} in a row without a move of its own" if strikes else ""
-        more += f", lost by {most} replaced moves in turns in which the player had a choice" if most else ""
+        more += f", lost after {most} replaced moves in turns in which the player had a choice" if most else ""
         yield f"{match.id}, {match.game}: {who}; {match.start} s for START, {match.play} s for each other message{more}"
         notes, runs = list(self.notes()), self.runs()
         for player in players:

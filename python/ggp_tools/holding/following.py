@@ -66,7 +66,7 @@ class Following:
         own = list(map(self.text, self.game.roles))
         # Roles that a rule derives have no order in the description.
         if own != roles and (self.game.has_fixed_order or sorted(own) != sorted(roles)):
-            raise Differs(f"the roles are {' '.join(map(quoted, own))} by the description, and {' '.join(map(quoted, roles))} in the record")
+            raise Differs(f"the roles are {' '.join(map(quoted, own))} in the description, but {' '.join(map(quoted, roles))} in the record")
         self.in_order = list(map(self.term, roles))
 
     def look_at_state(self, when: str, state: State, texts: list[str], cited: Callable) -> None:
@@ -106,7 +106,7 @@ class Following:
     def look_at_move(self, when: str, position: Position, role: str, move: Term, error: str) -> None:
         """Checks that a move is legal. A replaced move must be the first legal one, and the answer must be illegal."""
         if not self.game.is_legal(position, role, move):
-            raise Differs(f"{when}: the record plays {quoted(move)}, which is not legal by the description")
+            raise Differs(f"{when}: the record plays {quoted(move)}, which is not legal according to the description")
         if error.startswith(ILLEGAL) and error != UNREADABLE:
             answer = self.term(error.removeprefix(ILLEGAL))
             if self.game.is_legal(position, role, answer):
@@ -163,20 +163,20 @@ class Following:
         goals = self.game.goals(position, role)
         if goals != [value]:
             reasons = [f"{self.cited(GOAL, (role, str(goal)), position.state)} {goal}" for goal in goals]
-            raise Differs(f"{quoted(role)} has the goal {value} in the record, and by the description {'; '.join(reasons) or 'none'}")
+            raise Differs(f"{quoted(role)} has the goal {value} in the record, but according to the description {'; '.join(reasons) or 'none'}")
 
     def look_at_missing_goal(self, position: Position, at: int) -> None:
         """Checks the role for whose goals a match was given up: it must be the first without exactly one goal."""
         counts = [len(self.game.goals(position, role)) for role in self.in_order]
         without = next((place for place, count in enumerate(counts) if count != 1), None)
         if without != at:
-            words = "no role lacks its goal" if without is None else f"{quoted(self.in_order[without])} does"
-            raise Differs(f"the match was given up because {quoted(self.in_order[at])} has no single goal, and by the description {words}")
+            words = "there is no such role" if without is None else f"{quoted(self.in_order[without])} is the first such role"
+            why = f"the match was given up because {quoted(self.in_order[at])} does not have exactly one goal"
+            raise Differs(f"{why}, but according to the description {words}")
 
     def look_at_legal(self, position: Position, at: int | None) -> None:
         """Checks which role has no legal move."""
         without = next((place for place, role in enumerate(self.in_order) if not self.game.moves(position, role)), None)
         if without != at:
-            stuck = "no role" if without is None else quoted(self.in_order[without])
-            recorded = "no role" if at is None else quoted(self.in_order[at])
-            raise Differs(f"after the last turn {recorded} has no legal move in the record, and by the description {stuck}")
+            stuck, recorded = ("none" if place is None else quoted(self.in_order[place]) for place in (without, at))
+            raise Differs(f"the role without a legal move after the last turn is {recorded} in the record, but {stuck} in the description")
