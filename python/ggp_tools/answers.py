@@ -48,7 +48,7 @@ def listed(moves: list[str]) -> str:
 
 @functools.lru_cache(MOST_GAMES)
 def game_of(rules: bytes) -> Game:
-    """Parses ground rules for the interpreter, which shares no code with the referee."""
+    """Parses ground rules for the interpreter, which shares no code with the referee. The latest games are cached."""
     return Game(rules.decode("latin-1"))
 
 
@@ -67,15 +67,15 @@ class Illegal:
         return self.kept[1]
 
     def legal(self, role: int, turn: int) -> list[str]:
-        """Returns the legal moves of a role in a turn, none if the interpreter cannot compute them."""
+        """Returns the legal moves of a role in a turn, or an empty list if the interpreter cannot compute them."""
         try:
             return [spelled(move) for move in self.game().moves(self.position(turn), expressions(self.roles[role])[0])]
         except (Refused, LookupError, RecursionError, TypeError, ValueError):
             return []
 
     def moves(self, role: int, turn: int, error: str) -> str:
-        """Returns a text that says which moves were legal instead of an illegal one, and where the illegal one would be legal. The text is empty if
-        this is not known, or for errors of other kinds."""
+        """Describes the legal moves of a turn with an illegal move, and says for which roles or in which turn that move would be legal. The text is
+        empty if this is not known, and for errors of other kinds."""
         legal = self.legal(role, turn) if error.startswith("IL ") and error != "IL ?" else []
         if not legal:
             return ""

@@ -45,7 +45,7 @@ class Status:
 
 
 class Refused(Exception):
-    """The desk refuses a call, and nothing has changed. `reason` is a word such as `nomatch`; after `stale`, there is also the current round."""
+    """The desk has refused a call and changed nothing. `reason` is a word such as `nomatch`; after `stale`, there is also the current round."""
 
     def __init__(self, call: str, reason: str, round_: int | None) -> None:
         super().__init__(f"the desk refuses `{call}`: {reason}{'' if round_ is None else f' {round_}'}")
@@ -57,7 +57,7 @@ class DeskEnded(Exception):
 
 
 def word(value: str | int) -> str:
-    """Returns a word of a call. Refuses a value that would not be one word."""
+    """Returns a value as one word of a call. Refuses a value that would not be one word."""
     if isinstance(value, int) and not 0 <= value <= MOST_NUMBER:
         raise ValueError(f"expected a number from 0 to {MOST_NUMBER}, found {value}")
     if not WORD.fullmatch(str(value)):
@@ -93,7 +93,7 @@ class Desk:
         await asyncio.to_thread(self.__exit__, *why)
 
     def reply(self, call: str) -> str:
-        """Makes the call of a row of a script, and returns the row of its reply. An exception that interrupts this method ends the desk."""
+        """Makes the call in one row of a script, and returns the row with the reply. An exception that interrupts this method ends the desk."""
         if not TEXT.fullmatch(call):
             raise ValueError(f"expected a call without line breaks, found {call!r}")
         with self.lock:
@@ -123,7 +123,7 @@ class Desk:
         self.make("strict", id_, 0, start, play, strikes, *players)
 
     def next(self, id_: str, role: int) -> Owe | Hold | Over:
-        """Returns what is due to a role."""
+        """Returns what the role must do next."""
         match self.make("next", id_, role).split(" ", 3):
             case ["owe", round_, message, *joint_move]:
                 return Owe(int(round_), message, *joint_move)
@@ -132,7 +132,7 @@ class Desk:
         return Over()
 
     def submit(self, id_: str, role: int, round_: int, answer: str) -> None:
-        """Answers a round for a role. The desk judges the answer."""
+        """Submits the answer of a role in a round. The desk checks the answer."""
         self.reply(f"submit {word(id_)} {word(role)} {word(round_)} {answer}")
 
     def miss(self, id_: str, role: int, round_: int, *, is_broken: bool = False) -> None:

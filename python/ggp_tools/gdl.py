@@ -15,7 +15,7 @@ FEW_WAYS, MOST_WAYS = 100, 10000
 ARITIES = {"role": 1, "init": 1, "true": 1, "next": 1, "does": 2, "legal": 2, "goal": 2, "terminal": None}
 # The relations that define the game: their heads are written even if no body uses them.
 GAME = ("role", "init", "next", "legal", "goal", "terminal")
-# A message shows at most this many characters of the relations by which one depends on another.
+# A message about a dependence lists the relations in between, in at most this many characters.
 MOST_OF_WAY = 400
 NO_RELATIONS = ("<=", "not", "or", "distinct", "and")
 SECRET = "belongs to GDL-II, for games with chance or hidden information; here each role sees every move"
@@ -45,7 +45,7 @@ class Rule(NamedTuple):
 
 
 def as_read(expression: Expression) -> Expression:
-    """Replaces the list `(terminal)`, which some descriptions have, by the atom."""
+    """Replaces the list `(terminal)`, which some descriptions have, with the atom."""
     if isinstance(expression, str):
         return expression
     if expression == ("terminal",):
@@ -110,7 +110,7 @@ def must_be_literal(literal: Expression) -> None:
 
 
 def each_of(ways: list[list[Body]]) -> list[Body]:
-    """Returns the ways to satisfy all of these conditions, each given by its own ways."""
+    """Returns the ways to satisfy all of these conditions. Each condition is given as a list of the ways to satisfy it."""
     if math.prod(map(len, ways)) > MOST_WAYS:
         raise Refused(f"its `or`s can hold in more than {MOST_WAYS:,} ways", advice="move some of them into a relation with its own rules")
     return [tuple(itertools.chain(*way)) for way in itertools.product(*ways)]
@@ -173,7 +173,7 @@ def rules_of(number: int, sentence: Expression, names: Iterator[str]) -> list[Ru
 
 
 def lines_of(text: str) -> list[int]:
-    """Returns the line in which each sentence of a text begins, counted from 1."""
+    """Returns the line on which each sentence of a text begins, counted from 1."""
     counts = (text.count("\n", last, index) for last, index in itertools.pairwise([0, *starts(text)]))
     return [1 + count for count in itertools.accumulate(counts)]
 
@@ -240,7 +240,7 @@ def reached(asks: Mapping[Relation, Iterable[Relation]], relations: Iterable[Rel
 
 def components(graph: Mapping[Expression, Iterable[Expression]]) -> list[list[Expression]]:
     """Returns the strongly connected components of a graph, each as a list. A component comes after those that it leads to."""
-    # Tarjan's algorithm without recursion. Nodes on the stack have places in it as their indices, and nodes of found components a higher one.
+    # Tarjan's algorithm without recursion. The index of a node on the stack is its position there. Nodes of finished components have a higher index.
     lows, stack, components_found = {}, [], []
     for start in graph:
         open_nodes = [] if start in lows else [(start, iter(graph[start]), len(stack))]
@@ -276,7 +276,7 @@ class Relations:
                     if not literal.positive:
                         self.denies.setdefault(head, set()).add(asked)
         groups = components(self.asks)
-        # The relations that depend on each other have the same number here.
+        # Relations that depend on each other have the same number.
         self.group = {relation: number for number, group in enumerate(groups) for relation in group}
         self.circular = {relation for group in groups for relation in group if len(group) > 1 or relation in self.asks[relation]}
 

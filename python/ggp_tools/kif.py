@@ -1,4 +1,4 @@
-"""Parses KIF: an atom is a string, a list a tuple. `Refused` says why a description is refused."""
+"""Parses KIF. An atom becomes a string, and a list becomes a tuple. `Refused` says why a description is refused."""
 
 import re
 from collections.abc import Callable, Collection, Hashable, Iterable, Iterator
@@ -150,7 +150,7 @@ def fits(pattern: Expression, term: Expression, values: dict[str, Expression]) -
 
 
 def put(term: Expression, values: dict[str, Expression]) -> Expression:
-    """Replaces the variables of a term by their values."""
+    """Replaces the variables of a term with their values."""
     if isinstance(term, str):
         return values.get(term, term)
     return tuple([put(member, values) for member in term])
@@ -179,7 +179,7 @@ def head_of(sentence: Expression) -> Expression:
 
 
 def levels(expression: Expression) -> int:
-    """Returns how deep lists are nested."""
+    """Returns how deeply lists are nested."""
     return 0 if isinstance(expression, str) else 1 + max(map(levels, expression), default=0)
 
 

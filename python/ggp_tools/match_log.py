@@ -14,7 +14,7 @@ from ggp_tools.moments import moment_at
 from ggp_tools.printable import printable
 from ggp_tools.streams import limited_lines
 
-# An answer has at most 65,536 bytes, each of at most six characters. Longer lines are not events, and are not kept in memory.
+# An answer has at most 65,536 bytes, and each is written as at most six characters. Longer lines are not events, and are not kept in memory.
 LONGEST_LINE = 1 << 23
 START, PLAY, STOP, ABORT = KINDS = "START", "PLAY", "STOP", "ABORT"
 ENDS = STOP, ABORT

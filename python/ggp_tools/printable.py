@@ -37,6 +37,7 @@ def shown(text: str, most: int = MOST_OF_LINE) -> str:
 
 
 def counted(number: int, word: str, *verbs: str) -> str:
-    """Returns a number with a word, and with the first of two verbs, or with the second one for the plural."""
+    """Returns a number with a noun in the right form. If two verbs are given, the right one follows: the first for one thing, the second for
+    several."""
     plural = "" if number == 1 else "es" if word.endswith("ch") else "s"
     return " ".join([f"{number:,} {word}{plural}", *verbs[number != 1 :][:1]])

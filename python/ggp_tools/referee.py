@@ -46,7 +46,8 @@ class Unchecked(Exception):
 
 
 def find_program(given: str | None) -> str:
-    """Returns the path of the referee: the given one, else the one next to this program, in bin/ of the repository or on the path of the shell."""
+    """Returns the path of the referee: the given one, or else the one next to this program, in bin/ of the repository, or on the PATH of the
+    shell."""
     if given:
         if not shutil.which(given):
             raise NoReferee(f"{given} is not an executable program")

@@ -53,7 +53,7 @@ def limited_lines(file: BinaryIO, most: int) -> Iterator[tuple[bytes, bool]]:
 
 
 def lead_nowhere(output: TextIO | None) -> None:
-    """Discards everything that is written to an output from now on, and everything that the output has buffered."""
+    """Discards everything that is written to an output from now on, and everything in its buffer."""
     os.dup2(os.open(os.devnull, os.O_WRONLY), output.fileno())
 
 
@@ -106,8 +106,8 @@ def error_words(why: OSError) -> str:
 
 
 def status_of(command: str, perform: Callable[[], int], failed: int, known: tuple[type[Exception], ...] = ()) -> int:
-    """Runs a command and returns its exit status. The status is `failed` if the command ends with an error of a file, with too little memory, or with
-    a known error."""
+    """Runs a command and returns its exit status. The status is `failed` if a file has an error, memory runs out, or one of the known errors is
+    raised."""
     try:
         return perform()
     except Ended as why:

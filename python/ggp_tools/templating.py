@@ -27,7 +27,7 @@ def end_without(missing: ImportError) -> typing.NoReturn:
 
 
 def rows_of_text(data: bytes) -> "markupsafe.Markup":
-    """Returns text of several rows for a page."""
+    """Returns HTML for a text that has several rows."""
     import markupsafe
 
     return markupsafe.Markup("\n").join(map(visible, data.decode("latin-1").splitlines()))

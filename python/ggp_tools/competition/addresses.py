@@ -51,7 +51,7 @@ def looked_up(hosts: Iterable[str]) -> dict[str, list[str]]:
 
 
 def refusal(place: Place) -> str:
-    """Returns why the system refuses connections to a place, or an empty text. Nothing is sent."""
+    """Returns why the system refuses connections to an address, or an empty text. Nothing is sent."""
     address = ipaddress.ip_address(place[0])
     if address.is_multicast:
         return "a multicast address accepts no connection"

@@ -88,7 +88,8 @@ def matches_text(plan: Plan, results: Sequence[Result]) -> bytes:
 
 
 def gaps_files(plan: Plan, results: Iterable[Result]) -> dict[str, bytes]:
-    """Returns the file that lists the matches without a record, by its name. There is none if each round is planned and each match has a record."""
+    """Returns the name and the contents of the file that lists the matches without a record. There is no such file if each round is planned and each
+    match has a record."""
     missing = without_record(plan, results)
     return {GAPS: schedule_text(missing)} if missing or rounds_left(plan) else {}
 
@@ -121,7 +122,7 @@ def contents(plan: Plan, referee: Referee, results: list[Result], pages: Iterabl
 
 
 def publish(plan: Plan, referee: Referee, results: list[Result], path: pathlib.Path, known: Known) -> str:
-    """Writes the archive, and returns its checksum. The same files always give the same archive. Pages of matches that are known are not made
+    """Writes the archive, and returns its checksum. The same files always give the same archive. Pages of matches that were made before are not made
     again."""
     pages = Pages(plan, True, known).write(results)
     with written_whole(path) as file:
@@ -137,7 +138,7 @@ def bytes_of(data: Data) -> bytes:
 
 
 def with_sums(contents: Iterable[Content]) -> Iterator[tuple[str, bytes]]:
-    """Yields the names and bytes of the files that are published, and then those of the file with their checksums."""
+    """Yields the name and the bytes of each file that is published, and finally those of the file with the checksums."""
     sums = {}
     for name, data in contents:
         data = bytes_of(data)
@@ -174,7 +175,7 @@ def faults_of_files(plan: Plan, referee: Referee, results: list[Result]) -> Iter
     """Yields an error for each file that is missing, that `publish` would write with other contents, or that it would not write."""
     folder = plan.folder
     files = {name: file for name, file in files_below(folder.path).items() if not name.startswith("pages/")}
-    # The pages of the archive make room for those that are made again. No file of an archive has this name.
+    # The pages of the archive are renamed, because they are made again. No file of an archive has this name.
     archived = folder.path.parent / "pages of the archive"
     os.rename(folder.pages, archived) if folder.pages.is_dir() else archived.mkdir()
     files |= {f"pages/{name}": file for name, file in files_below(archived).items()}

@@ -67,11 +67,11 @@ class Asked:
         self.over: set[bytes] = set()
 
     def is_of_role(self, line: bytes, match: bytes, role: bytes) -> bool:
-        """Returns whether a call comes from the line that the role has at the desk, before its part is over."""
+        """Returns whether a call comes from the line of the role at the desk, before the role's part is over."""
         return match == self.match and int(line) == int(role) + 1 and role not in self.over
 
     def may_hold(self, role: bytes, hold: bytes) -> bool:
-        """Counts that a role must wait, and returns whether a referee lets it ask this often in this round."""
+        """Counts a reply that makes a role wait. Returns whether a referee lets the role ask this often in this round."""
         before, count = self.holds.get(role, (hold, 0))
         self.holds[role] = hold, count + 1 if before == hold else 1
         return self.holds[role][1] <= MOST_HOLDS + self.clocks[hold != b"hold 0"] + 2 * self.roles
@@ -126,7 +126,7 @@ class Exchange(NamedTuple):
     error: str | None
 
     def is_of(self, message: Message) -> bool:
-        """Returns whether a match log says the same."""
+        """Returns whether an event of a match log agrees with this."""
         return self == (message.kind, message.round, message.message, message.answer, message.error)
 
 

@@ -18,7 +18,7 @@ from ggp_tools.referee import Referee
 MOST_AT_ONCE = 1 << 16
 # At most this many players are sent ABORT at the same time.
 MOST_ABORTS = 1_024
-# When the time of a process is over, its output is awaited for this many more seconds: SOON if it seems to be running, LATE if it has ended.
+# After the time limit of a process, its output is awaited for this many more seconds: SOON if the process seems to be running, LATE if it has ended.
 SOON, LATE = 0.1, 10
 
 
@@ -34,7 +34,7 @@ class Watched(asyncio.subprocess.SubprocessStreamProtocol):
         super().process_exited()
 
     def pipe_connection_lost(self, fd: int, why: Exception | None) -> None:
-        """Ignores that a process has closed its input. Python would report this as an error."""
+        """Does nothing when a process closes its input, because Python would report this as an error."""
         super().pipe_connection_lost(fd, why if fd else None)
 
 

@@ -33,7 +33,7 @@ from ggp_tools.streams import PACKED, ready_streams, say, whole
 
 MOST_AT_ONCE = 1_024
 DIRECTORY = "the directory of the competition, with competition.toml (the current one)"
-# If more matches than this are missing for the same reason, they share a line.
+# If more matches than this are missing for the same reason, they are reported on one line.
 MOST_LINES = 10
 HELP = "Runs a competition of game players from one directory, whose file competition.toml describes it."
 STATUS = """exit status 0: success; with `play`, each match has a lawful record. 1: failure. 2: the command or competition.toml is wrong. 3: the referee
@@ -109,7 +109,7 @@ def write_matches(plan: Plan, results: list[Result]) -> None:
 
 
 def known_results(plan: Plan, referee: Referee, known: Known | None) -> tuple[list[Result], bool]:
-    """Returns the results that count, in the order of the schedule, and whether records do not count. Reports why they do not."""
+    """Returns the results that count, in the order of the schedule, and whether there are records that do not count. Reports why they do not."""
     results, faults, misfits = check_records(plan, referee, known)
     for match, why in {**faults, **misfits}.items():
         print(f"ggp_competition: {match} does not count: {why}", file=sys.stderr)
@@ -196,7 +196,7 @@ def run_again(asked: argparse.Namespace, referee: Referee) -> int:
 
 
 def error_of_pages(write: Callable[..., object], *arguments: object) -> str | None:
-    """Writes pages. If that fails, returns the error instead of raising it, because the matches go on."""
+    """Writes the pages. If that fails, returns the error instead of raising it, so that the matches can continue."""
     try:
         write(*arguments)
         return None
@@ -205,7 +205,7 @@ def error_of_pages(write: Callable[..., object], *arguments: object) -> str | No
 
 
 def missing_lines(missing: dict[str, str]) -> Iterator[str]:
-    """Yields lines about the missing matches, with the reasons. Many matches with the same reason share a line."""
+    """Yields lines about the missing matches, with the reasons. Many matches with the same reason are reported on one line."""
     by_reason: dict[str, list[str]] = {}
     for match, why in missing.items():
         by_reason.setdefault(why, []).append(match)

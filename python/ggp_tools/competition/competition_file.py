@@ -35,14 +35,14 @@ ROUND_KINDS = SWISS, KNOCKOUT = "swiss", "knockout"
 # The keys of each kind besides `kind`.
 KINDS = {"round_robin": ("rounds",), "gauntlet": ("rounds", "one"), "schedule": ("lines",), SWISS: ("rounds", "final"), KNOCKOUT: ()}
 ABSENT = ("leave", "play")
-# Whether the finished matches of a withdrawn player count.
+# What happens to the finished matches of a withdrawn player: they count, or they do not.
 WITHDRAWN_RESULTS = KEEP, VOID = "keep", "void"
 REASON = re.compile(r"(?! )[\x20-\x7e]{1,200}(?<! )")
 # How the ids of the matches are made.
 IDS = COUNTED_IDS, RANDOM_IDS = "counted", "random"
 # How the standings are ordered.
 ORDERS = BY_GOALS, BY_POINTS = "goals", "points"
-# What START carries: the rules that the referee plays, or the description that they were made from.
+# What START contains: the rules that the referee plays, or the description that they were made from.
 PLAYER_RULES = ("ground", "variables")
 # How pages draw the boards of a game: by the shape of the places, or with hexagons.
 BOARDS = "shape", "hex"
@@ -82,7 +82,7 @@ class Text:
 
 
 def spelled(value: object) -> str:
-    """Returns a value of the file as messages show it."""
+    """Returns a value of the file in the form that messages show."""
     if isinstance(value, dict | list):
         return "a table" if isinstance(value, dict) else "an array"
     if isinstance(value, bool):
@@ -195,7 +195,7 @@ class Section:
         return found
 
     def words(self, key: str, what: str, is_needed: bool = True) -> tuple[str, ...]:
-        """Returns the words of a command: none if they are invalid, or if the key is missing and not needed."""
+        """Returns the words of a command. The list is empty if they are invalid, or if the key is missing and not needed."""
         if key not in self.table and not is_needed:
             return ()
         words = tuple(word.text for word in self.texts(key))
@@ -334,7 +334,7 @@ class Launcher:
 
 @dataclass(frozen=True)
 class Faults:
-    """A player with `replaced` replaced moves, in turns in which it had a choice, has lost the match. If it is 0, there is no such limit."""
+    """A player loses a match if `replaced` of its moves were replaced in turns in which it had a choice. 0 means that there is no limit."""
 
     replaced: int = read_by(Section.number, 1, MOST_TURNS)
 

@@ -22,8 +22,8 @@ REPORT = "report-{}.tar.gz"
 
 
 def description_of(plan: Plan, game: Game) -> tuple[bytes | None, str | None]:
-    """Returns the description of a game, or None if it has no variables or cannot be used, and why it cannot be used, or None. Only the version that
-    `plan` has read can be used."""
+    """Returns the description of a game and, if it cannot be used, the reason. The description is None if it has no variables or cannot be used, and
+    the reason is None if there is none. Only the version that `plan` has read can be used."""
     file = plan.folder.description(game)
     try:
         sums, text = sums_of(plan.folder.description_sums()), file.read_bytes()

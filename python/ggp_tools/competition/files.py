@@ -28,7 +28,7 @@ PRIVATE = 0o600
 
 
 class Refused(Exception):
-    """Why a command ends, in lines, and advice that applies to the directory of a competition but not to an archive."""
+    """The reason why a command ends, in lines, and advice that applies to the directory of a competition but not to an archive."""
 
     def __init__(self, words: str, advice: str | None = None) -> None:
         super().__init__(f"{words}: {advice}" if advice else words)
@@ -259,7 +259,8 @@ class Folder:
             raise Refused(f"{self.path.absolute()}: the path of a competition must be UTF-8, because the referee accepts no other") from None
 
     def make(self, *folders: pathlib.Path) -> None:
-        """Creates missing directories, so that they last like the files in them. Only the owner can read the directory of open matches."""
+        """Creates missing directories, and waits until they are on the disk, like the files in them. Only the owner can read the directory of open
+        matches."""
         for folder in (self.path, *folders):
             if not folder.is_dir():
                 folder.mkdir(parents=True, exist_ok=True)

@@ -87,7 +87,7 @@ def run_game(asked: argparse.Namespace, referee: Referee) -> int:
 
 
 def load(path: pathlib.Path, text: bytes, referee: Referee, limit: int) -> Rules:
-    """Returns the rules of a description. Raises `Unchecked` if the grounding failed for a reason that is not in the description."""
+    """Returns the rules of a description. Raises `Unchecked` if grounding failed for a reason other than an error in the description."""
     if len(text) <= MOST_BYTES and has_variables(text) and not shutil.which("gringo"):
         raise Unchecked(f"{path} can't be grounded: the grounder gringo is not installed")
     try:

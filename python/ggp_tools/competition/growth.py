@@ -16,7 +16,7 @@ from ggp_tools.competition.rounds import Round, Rounds, is_by_rounds, meetings, 
 from ggp_tools.competition.schedule import Match, asked, id_of, refuse_numbers, refuse_too_many
 from ggp_tools.printable import counted
 
-# The number of planned matches when a version of competition.toml was replaced; None for the present one.
+# The number of matches that were planned when a version of competition.toml was replaced; None for the current version.
 Until = int | None
 # A game and its players in the order of the roles.
 Seated = tuple[str, tuple[str, ...]]
@@ -25,7 +25,7 @@ ResultOf = Callable[[Match], Result | None]
 
 
 class Misfit(Exception):
-    """Why a schedule can't grow like this, and the line of competition.toml with the error, if there is one."""
+    """The reason why a schedule can't grow like this and, if there is one, the line of competition.toml with the error."""
 
     def __init__(self, words: str, line: int = 0) -> None:
         super().__init__(words)
@@ -56,7 +56,7 @@ class History:
 
 
 def shape(competition: Competition) -> tuple[object, ...]:
-    """Returns everything that the schedule of a competition follows from."""
+    """Returns everything that determines the schedule of a competition."""
     form, games = competition.form, [(game.name, game.start, game.play) for game in competition.games]
     names = [(player.name, player.withdrawn is None) for player in competition.players]
     rules = competition.name, competition.ids, competition.withdrawn_results, competition.absent_rounds
@@ -91,7 +91,7 @@ def spelled(value: object) -> str:
 
 
 def refuse_changes(before: Competition, after: Competition) -> None:
-    """Refuses changes to what must not change once matches have been played."""
+    """Refuses changes to values that must not change once matches have been played."""
     now = fixed(after) | {"withdrawn_results": after.withdrawn_results}
     for key, old in fixed(before).items():
         if old != now.get(key, old):

@@ -79,7 +79,7 @@ def read_history(folder: Folder) -> History:
 
 
 def read_key(folder: Folder, competition: Competition) -> bytes | None:
-    """Returns the key from which the ids of the matches are computed: empty if they are counted, None if its file is missing."""
+    """Returns the key from which the ids of the matches are computed. The key is empty if the ids are counted, and None if its file is missing."""
     if competition.ids != RANDOM_IDS:
         return b""
     if not folder.key.exists():

@@ -1,4 +1,4 @@
-"""The server of the live pages: it only sends data, and limits the number of connections."""
+"""The server of the live pages. It only sends data, and it limits the number of connections."""
 
 import asyncio
 import concurrent.futures
@@ -44,7 +44,7 @@ PIECE, MOST_SENT = 1 << 16, 256 << 20
 PAGE, JSON, NUMBERS = "text/html", "application/json", "text/plain; version=0.0.4"
 NOBODY = ("'none'",)
 VERSION, METHODS = re.compile("[0-9]{1,20}"), ("GET", "HEAD")
-# Errors of requests that cannot be read concern only their senders, so they are not logged.
+# If a request cannot be read, only its sender needs to know, so the error is not logged.
 SILENT = logging.Logger("requests")
 SILENT.addHandler(logging.NullHandler())
 
@@ -105,7 +105,7 @@ class Connection(web.RequestHandler):
         super().connection_lost(why)
 
     def has_asked(self) -> None:
-        """Notes that the head has arrived. The calling task answers as long as the connection is open."""
+        """Records that the head has arrived. The calling task answers as long as the connection is open."""
         self.is_idle, self.asking = False, asyncio.current_task()
         self.clock.cancel()
 
@@ -229,7 +229,7 @@ class Server:
             return await self.send(request, HTTPStatus.INTERNAL_SERVER_ERROR)
 
     def note_answer(self, connection: Connection, answer: bytes) -> None:
-        """Notes the answer that is being sent. If all answers are too long in total, this ends connections of the client with the most bytes."""
+        """Records the answer that is being sent. If all answers together are too long, this ends connections of the client with the most bytes."""
         connection.answer = answer
         while sum(map(len, {id(other.answer): other.answer for other in self.visitors.connections}.values())) > MOST_SENT:
             answered = [other for other in self.visitors.connections if other.answer]
@@ -242,7 +242,7 @@ class Server:
         return {**self.headers, **known, "Vary": "Origin", "Content-Type": f"{kind}; charset=utf-8"}
 
     async def send(self, request: web.BaseRequest, status: HTTPStatus, data: bytes | None = None) -> web.StreamResponse:
-        """Sends the data or, if there is none, the text of the status."""
+        """Sends the data or, if there are none, the text of the status."""
         path = request.raw_path.removeprefix(self.base)
         kind = kind_of(path)
         if data is None:

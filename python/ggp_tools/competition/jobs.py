@@ -38,7 +38,7 @@ class Job:
     ) -> None:
         self.take_output, self.take_line, self.up, self.end_seconds = take_output, take_line, up, end_seconds
         self.is_up, self.process, self.is_remote = asyncio.Event(), None, False
-        # The node, the process and address of a player, and the exit status, as the job reports them; and why it was given up.
+        # What the job reports: the node, the process and the address of a player, and the exit status. Then the reason why the job was given up.
         self.node, self.player, self.status, self.why = "", "", None, ""
         # Whether the job has its task, and whether the task may go on after the local process of the job has ended.
         self.has_begun, self.goes_on = False, False

@@ -1,5 +1,5 @@
 """A cache of facts about the files of a competition. The keys are checksums of everything that the facts follow from, so facts about a changed file
-are not found. The cache is in the user's cache directory, so a competition's directory that comes from elsewhere cannot bring false facts."""
+are not found. The cache is in the user's cache directory, so a directory that comes from elsewhere cannot introduce false facts."""
 
 import dataclasses
 import hashlib

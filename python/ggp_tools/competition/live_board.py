@@ -12,7 +12,7 @@ from ggp_tools.match_log import ERRORS, NO_TIME, SHORTAGE, START, Message
 from ggp_tools.records.show import mover_of
 from ggp_tools.referee import MOST_OF_MOVE, MOST_OF_SCRIPT, Referee, Unchecked
 
-# Boards are formed from at most this many of the last states, and at most this many of the last turns are listed.
+# Boards are drawn from at most this many of the last states, and at most this many of the last turns are listed.
 MOST_STATES, MOST_TURNS = 30, 50
 ENDING = "stopping", "aborting", "finished", "aborted"
 NO_LINE = "the log lacks a line, so the state is not known from here on"

@@ -30,8 +30,8 @@ REPLACED = f"The last {MOST_REPLACED}, at most {MOST_OF_MATCH} of each match."
 
 @dataclasses.dataclass(frozen=True)
 class Status:
-    """What an open match waits for, and since when: for the role whose turn it is, or for answers. In the first half of the clock, it names no other
-    player, because the speed of an answer may reveal the answer."""
+    """What an open match waits for, and since when: the role whose turn it is, or answers. In the first half of the clock, it names no other player,
+    because the speed of an answer may reveal the answer."""
 
     text: str
     since: float

@@ -81,7 +81,8 @@ def account_bytes(folder: Folder, match: str) -> bytes | None:
 
 
 def fault_of_files(record: bytes, account: bytes | None, rules: bytes) -> str | None:
-    """Returns why files are not even passed to the referee, or None. This finds everything that the referee would skip, or at which it would stop."""
+    """Returns the reason why files cannot be passed to the referee, or None. This finds everything that would make the referee stop, or that it would
+    skip."""
     if account is None:
         return "its call log is missing"
     if len(account) > LONGEST_ACCOUNT:

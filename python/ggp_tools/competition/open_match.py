@@ -24,7 +24,7 @@ from ggp_tools.referee import Referee, Unchecked
 if TYPE_CHECKING:
     from ggp_tools.competition.playing import Playing
 
-# The referee ends INFO by itself after WHOLE seconds. After SOON more, it has reported whether it was out of a resource.
+# The referee ends INFO by itself after WHOLE seconds. Within SOON more seconds, it has reported whether it ran out of a resource.
 WHOLE, SOON = 10, 1
 FREE = ("available", "ready", "unknown")
 # A launcher may send at most this many bytes before a match, and the log has at most this many for each message, besides the texts of the message.
@@ -121,7 +121,7 @@ class OpenMatch:
         answer, is_unknown = verdict.get("verdict", ""), verdict.get("lacks") == "resolver"
         is_silent = done.status is None or answer == "no_answer" or is_unknown
         if is_silent:
-            # Only the time distinguishes a refused or lost connection from a player that let the seconds pass.
+            # Only the elapsed time distinguishes a refused or lost connection from a player that did not answer in time.
             is_refused = done.status is not None and done.seconds < WHOLE
             answer = "its host name is unknown" if is_unknown else "refused" if is_refused else "silent"
         elif done.status or not answer:

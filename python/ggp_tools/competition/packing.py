@@ -40,7 +40,7 @@ OTHERWISE = "its bytes are not those that `publish` would write: the difference 
 
 
 class Spoilt(Refused):
-    """What is wrong with an archive, in lines."""
+    """The errors of an archive, in lines."""
 
 
 class TooLarge(Exception):

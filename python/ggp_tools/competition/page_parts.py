@@ -90,7 +90,7 @@ def item_changes(old: Items, new: Items) -> dict[str, list]:
 
 
 def changes(old: PageParts, new: PageParts) -> dict | None:
-    """Returns the changes of a page, or None if there are none. If more than parts and items have changed, the browser must load the page again."""
+    """Returns the changes to a page, or None if there are none. If more than parts and items have changed, the browser must load the page again."""
     if frame(old) != frame(new):
         return {"reload": True}
     changed = {"drop": [], "set": [], "add": []}

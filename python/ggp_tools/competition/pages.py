@@ -40,7 +40,7 @@ SECONDS, SHARE = 2, 10
 LAST, MOST_CROSSED = 20, 100
 # A page lists at most this many matches. The list of all matches has several pages.
 MOST_LISTED = 500
-# The bytes of the records whose pages are made together.
+# Pages are made in batches whose records have about this many bytes.
 TOGETHER = 64 << 20
 # At most this much of a match's log is read.
 MOST_OF_LOG, LOG_WORDS = 16 << 20, "16 MiB"

@@ -56,7 +56,7 @@ class Plan:
         return self.rules[game].roles
 
     def judge(self, referee: Referee, game: str) -> Referee:
-        """Returns the referee with the limits of a game: the usual ones, or those for large games."""
+        """Returns the referee with the limits that apply to a game: the usual ones, or those for large games."""
         return referee.taking(self.rules[game].is_large)
 
     def read_record(self, match: Match) -> bytes:
@@ -208,7 +208,7 @@ def refuse_addresses(folder: Folder, competition: Competition) -> dict[str, str]
 
 
 def seeds_of(folder: Folder, competition: Competition) -> Path | None:
-    """Returns the file with the seeds from another competition, or None. Once matches have been played, this is the copy of it."""
+    """Returns the file with the seeds from another competition, or None. Once matches have been played, this is the copy that `plan` made."""
     if not competition.seeds or is_begun(folder) and folder.seeds.exists():
         return folder.seeds if competition.seeds else None
     path = folder.path / competition.seeds

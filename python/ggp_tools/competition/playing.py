@@ -37,7 +37,8 @@ MOST_OF_PLACES = 1 << 20
 
 
 class Playing:
-    """The matches that wait, those that are open, and the outcomes of the others. `watch` gets the results now and then, if it is set."""
+    """The matches that wait, those that are open, and the outcomes of the others. If `watch` is set, it is called with the results from time to
+    time."""
 
     def __init__(self, plan: Plan, referee: Referee, reporter: Reporter, at_once: int) -> None:
         self.plan, self.referee, self.reporter = plan, referee, reporter
@@ -106,7 +107,7 @@ class Playing:
             self.waiting.append(match)
 
     def stop_game(self, match: Match) -> None:
-        """Lets no more matches of a game begin, because its rules are wrong. Open matches are played to their ends."""
+        """Stops further matches of a game from beginning, because its rules are wrong. Open matches are played to their ends."""
         self.stopped[match.game] = f"{match.game} is not played any more, because {match.id} does not follow its description"
         others = [waiting for waiting in self.waiting if waiting.game == match.game]
         self.left.update((other.id, self.stopped[match.game]) for other in others)
@@ -162,7 +163,7 @@ class Playing:
                 self.reporter.line(why)
 
     def interrupt(self, count: int) -> None:
-        """Lets no more matches begin, or ends the open ones at the second interrupt."""
+        """Stops further matches from beginning. The second interrupt ends the open matches."""
         before, self.interrupts = self.interrupts, self.interrupts + count
         self.news.set()
         if self.interrupts == 1:
@@ -173,7 +174,8 @@ class Playing:
             self.group.create_task(self.end_open_matches())
 
     async def end_open_matches(self) -> None:
-        """Ends the matches that are asking or playing, and sends the players of the latter ABORT. Matches that are being checked go on."""
+        """Ends the matches whose players are being asked or that are being played. Sends ABORT to the players of matches that are being played.
+        Matches that are being checked go on."""
         ended = {open_match: task for open_match, task in self.open.items() if open_match.stage in (ASKING, PLAYING)}
         broken = [open_match for open_match in ended if open_match.stage == PLAYING]
         for task in ended.values():
@@ -276,7 +278,7 @@ def abort_open_matches(playing: Playing, directories: dict[pathlib.Path, list[st
 
 def set_all_aside(playing: Playing, faults: dict[str, str]) -> None:
     """Renames the files that do not count, because the record has one of these faults or is missing, and reports what happens to each match. A match
-    that another one replaces is not played any more."""
+    that was replaced by another one is not played again."""
     for match in playing.plan.matches:
         if match.id not in playing.results and set_aside(playing.plan, match.id):
             fault = faults.get(match.id)

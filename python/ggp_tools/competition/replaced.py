@@ -26,7 +26,7 @@ class Replaced:
 
 
 def newest(moves: Iterable[Replaced]) -> list[Replaced]:
-    """Returns the latest replaced moves, the newest last."""
+    """Returns the last replaced moves, the newest at the end."""
     return sorted(moves, key=lambda move: (move.moment, move.turn))[-MOST_REPLACED:]
 
 

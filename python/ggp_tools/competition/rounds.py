@@ -82,7 +82,7 @@ def rounds_of(competition: Competition) -> int:
 
 
 def swiss_rounds(competition: Competition) -> int:
-    """Returns how many rounds do not belong to a knockout."""
+    """Returns the number of rounds that do not belong to a knockout."""
     return competition.form.rounds if competition.form.kind == SWISS else 0
 
 

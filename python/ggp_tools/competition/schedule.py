@@ -12,7 +12,7 @@ from ggp_tools.printable import counted
 
 HEAD = "id\tgame\tstart\tplay\tplayers\n"
 MOST_MATCHES = 100_000
-# The number of letters and digits of a random id that follow from the key: 60 bits.
+# The number of letters and digits of a random id that are computed from the key: 60 bits.
 SECRET_LETTERS = 12
 # The match, its game, its clocks, and the players.
 ROW = re.compile(rb"([A-Za-z0-9_.-]{1,60})\t([A-Za-z0-9_.-]{1,40})\t([0-9]{1,5})\t([0-9]{1,5})\t([A-Za-z0-9_. -]+)\n?")

@@ -1,4 +1,5 @@
-"""Which players are free: each has a limited number of matches at the same time, and rests for a while after it was busy or silent."""
+"""Keeps track of the free players. Each player has a limited number of matches at the same time, and rests for a while after it was busy or
+silent."""
 
 import math
 import time
@@ -37,8 +38,8 @@ class Slots:
         self.failed[player] = 0
 
     def count_failure(self, player: str, taken_at: float) -> bool:
-        """Returns whether to ask the player again, after it failed to answer for a match that took its slots at this time. After several failed
-        tries in a row it is not asked again. If it was asked for several matches at the same time, that is one try."""
+        """Returns whether to ask the player again, after it failed to answer for a match that took its slots at this time. After several failed tries
+        in a row it is not asked again. If it was asked for several matches at the same time, that counts as one try."""
         if taken_at <= self.failed_at[player]:
             return self.failed[player] < self.tries
         self.idle_until = 0.0

@@ -52,7 +52,7 @@ class PlayerLog:
             await asyncio.sleep(CHUNK_PAUSE)
 
     def write(self, data: bytes) -> None:
-        """Appends output. What cannot be written is lost, because a full disk must not end the player."""
+        """Appends output. Output that cannot be written is lost, because a full disk must not end the player."""
         with contextlib.suppress(OSError):
             if self.size > MOST_BYTES:
                 os.replace(self.path, f"{self.path}.1")

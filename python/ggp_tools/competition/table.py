@@ -39,7 +39,7 @@ class Line:
     absent: int = 0
     retired: int = 0
     rating: "Rating | None" = None
-    # Only in the table of all games of a competition by rounds.
+    # Set only in the table of all games, and only if the competition is played in rounds.
     byes: int = 0
     round_points: float | None = None
     buchholz: float | None = None

@@ -27,7 +27,7 @@ SIGNS, MOST_SIGNS = frozenset("=,["), 150_000
 
 
 class TomlFault(Exception):
-    """Why a text is not TOML, with the line, and the key at the beginning of the line, if it has one."""
+    """The reason why a text is not TOML, with the line and, if there is one, the key at the beginning of the line."""
 
     def __init__(self, line: int, key: str, words: str) -> None:
         super().__init__(words)

@@ -14,7 +14,7 @@ from ggp_tools.descriptions.loading import Rules
 from ggp_tools.referee import Referee
 from ggp_tools.reporting import Reporter
 
-# Reports have this instead of the id of a match.
+# Reports show this in place of the id of a match.
 NO_MATCH = "try"
 
 
@@ -56,7 +56,7 @@ def try_player(folder_or_file: str, name: str, game_name: str | None, referee: R
     player, game = chosen(competition, path, name, game_name)
     refuse_addresses(folder, replace(competition, players=(player,)))
     rules = loaded_games(folder, replace(competition, games=(game,)), referee)[game.name]
-    # `play` would start the same player.
+    # Locking keeps `play` from starting the same player.
     with held(folder.path):
         folder.make(folder.players)
         started = StartedPlayer(folder, player, 0, referee, reporter)

@@ -37,8 +37,8 @@ MARKS = {
 
 @dataclass
 class Entry:
-    """What happened, with the time, which is empty if it is unknown, and the role, which is None if it happened to all. The journal and the log may
-    be from two computers whose clocks differ."""
+    """Something that happened, with its time, which is empty if unknown, and its role, which is None if it concerns all roles. The journal and the
+    log may be from two computers whose clocks differ."""
 
     time: str
     role: int | None
@@ -72,8 +72,8 @@ def merged(*parts: list[Entry]) -> list[Entry]:
 
 
 def in_order(notes: list[Entry], runs: list[list[Entry]], match_id: str) -> list[Entry]:
-    """Merges the notes of the journal and the runs of the log, both about one role. A run comes between the notes of its beginning and its end, and
-    the notes about the player are placed by their times. The log may lack the first runs."""
+    """Merges the notes of the journal and the runs of the log. Both are about one role. A run comes between the notes of its beginning and its end,
+    and the notes about the player are placed by their times. The log may lack the first runs."""
     before, *begun = parts_at(notes, f"begin {match_id} ")
     if not begun:
         return [*notes, *sum(runs, [])]
@@ -153,7 +153,7 @@ class Explanation:
         return Illegal(self.record["states"], self.roles, lambda: game_of(self.plan.rules[self.match.game].text))
 
     def illegal_text(self, role: int, turn: int, error: str, answer: str) -> str:
-        """Explains an answer that is not a legal move: why it is not an expression, or what is legal."""
+        """Explains an answer that is not a legal move: why it is not an expression, or which moves were legal."""
         if error == "IL ?":
             why = no_expression(answer)
             return f": {why}" if why else ""
@@ -187,7 +187,7 @@ class Explanation:
         return [*retired, f"{goal}; {replaced} of {len(errors)} moves replaced", *forfeit]
 
     def lines(self, players: list[str]) -> Iterator[str]:
-        """Yields everything that is known about these players in the match."""
+        """Yields everything that is known about what these players did in the match."""
         match = self.match
         who = ", ".join(f"{player} is {role}" for player, role in zip(match.players, self.roles))
         strikes, most = self.plan.competition.strikes, self.plan.competition.faults.replaced
