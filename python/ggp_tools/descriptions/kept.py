@@ -22,7 +22,7 @@ def cache() -> pathlib.Path:
 
 
 def sealed(name: str, data: bytes) -> bytes:
-    """Returns the contents of a cached file with this name. Under another name, these contents are not accepted."""
+    """Returns the contents of a cached file with this name. They are not accepted under a different name."""
     return hashlib.sha256(f"{name}\n".encode() + data).hexdigest().encode() + b"\n" + data
 
 
@@ -63,7 +63,7 @@ def sources() -> list[pathlib.Path]:
 def sum_of_work(text: bytes, options: list[str]) -> str:
     """Returns the checksum of everything that a result depends on. The time limit is not part of it."""
     checksum = hashlib.sha256()
-    # The size and the time of the file identify the grounder, because it would have to be run to get its version.
+    # The size and the time of its file identify the grounder, because getting its version would mean running it.
     path = shutil.which("gringo")
     grounder = f"{path} {os.stat(path).st_size} {os.stat(path).st_mtime_ns}".encode() if path else b""
     for part in (text, grounder, *(file.read_bytes() for file in sources()), *(option.encode() for option in options)):

@@ -32,7 +32,7 @@ class NoDescription(Exception):
 
 
 class Stopped(NoDescription):
-    """The time ran out before anything was known about a description."""
+    """The time limit was reached before anything was known about a description."""
 
 
 @dataclass(frozen=True)
@@ -85,8 +85,8 @@ def run_module(name: str, *words: str, data: bytes | None = None) -> subprocess.
 
 
 def why_not(made: subprocess.CompletedProcess) -> str:
-    """Returns why a run of `ggp-instantiate` failed: the last line that it printed, preceded by the sentences that cost the most if a limit was
-    exceeded."""
+    """Returns why a run of `ggp-instantiate` failed: the last line that it printed. If a limit was exceeded, the sentences that cost the most come
+    first."""
     lines = made.stderr.decode(errors="replace").strip().splitlines() or [f"ggp-instantiate ended with status {made.returncode}"]
     return "\n".join([*(line.strip() for line in lines[:-1] if line.startswith("  largest: ")), PLACED.sub("", lines[-1])])
 
@@ -118,8 +118,8 @@ def rules_of(
     text: bytes, name: pathlib.Path | str, referee: Referee, player_rules: bytes | None = None, description_sum: str | None = None,
     notes: tuple[str, ...] = (),
 ) -> Rules:
-    """Returns the rules of a ground description, as the referee reads it. If it exceeds the usual limits, the large ones apply. Refuses what the
-    referee refuses, with the referee's message."""
+    """Returns the rules of a ground description, as the referee reads it. If it exceeds the usual limits, the large ones apply. Refuses rules that
+    the referee refuses, with the referee's message."""
     large = referee.taking(True)
     programs = [large] if referee.is_large or LARGE_NOTE in notes_of(text) else [referee, large]
     for program in programs:

@@ -18,7 +18,7 @@ from ggp_tools.records.record import is_list, is_text, list_of
 from ggp_tools.referee import Referee, read_objects, rules_file, unchecked
 from ggp_tools.reporting import REDRAWN, Reporter
 
-# The bytes of a script and the number of matches for one run of `desk`, below its limits.
+# The number of bytes of a script, and of matches, for one run of `desk`. Both are below its limits.
 MOST_BYTES, MOST_MATCHES = 1_000_000, 1_000
 # The bytes of a script that are reserved for lines that do not belong to a turn.
 BESIDE_TURNS = 10_000
@@ -128,7 +128,7 @@ class RandomMatches:
 
     def hand_in(self, seed: int, match: Played, record: dict) -> None:
         if any(is_too_long(move) for moves in match.moves for move in moves):
-            # The desk accepts no such answer.
+            # The desk accepts no answer that long.
             self.too_long += 1
             return
         lines = list(lines_of(match))

@@ -1,5 +1,5 @@
-"""Finds suspicious sentences in a description that the referee accepts. A sentence that may be right is not reported: if its instances are not
-known because of variables, it counts as right."""
+"""Finds suspicious sentences in a description that the referee accepts. A sentence that may be correct is not reported. If its instances are unknown
+because it has variables, it counts as correct."""
 
 import difflib
 import itertools
@@ -26,7 +26,7 @@ KNOWN = {("role", 1), ("legal", 2), ("goal", 2), ("terminal", None)}
 # The keywords of GDL with the numbers of their arguments: None for an atom, "any" for any number.
 HEADS = {**{name: ARITIES[name] for name in GAME}, "base": 1, "input": 2, "<=": "any"}
 CONDITIONS = {"role": 1, "true": 1, "does": 2, "legal": 2, "goal": 2, "terminal": None, "not": 1, "distinct": 2, "or": "any"}
-# What people write instead of these keywords, apart from misspellings.
+# Other words that authors use for these keywords, apart from misspellings.
 OFTEN = {
     "<=": "=> <- -> :- <== ==> =< >= <=> < = if".split(),
     "init": "initial initially start".split(),
@@ -137,7 +137,7 @@ class Atoms:
         return {*self.plain, *self.open}
 
     def like(self, atom: Expression) -> Iterator[Expression]:
-        """Yields the sentences that can be equal to this one, and this one first if it is among them."""
+        """Yields the sentences that can be equal to this one. If this one is among them, it comes first."""
         key, is_open = relation(atom), bool(variables(atom))
         if not is_open and atom in self.plain.get(key, ()):
             yield atom
@@ -235,12 +235,12 @@ def shown_form(name: str, count: int | None) -> str:
 
 
 def listed(name: str, counts: Sequence[int | None]) -> str:
-    """Returns the forms of a relation with these numbers of arguments, or only the first few of them."""
+    """Returns the forms of a relation with these numbers of arguments, but only the first few if there are many."""
     return " and ".join([f"`{shown_form(name, count)}`" for count in counts[:MOST_LISTED]] + ["others"] * (len(counts) > MOST_LISTED))
 
 
 def is_too_long(move: Expression) -> bool:
-    """Returns whether no player can make a move because the desk accepts no answer that long."""
+    """Returns whether a move is so long that the desk would not accept it as an answer, so that no player can make it."""
     return len(spelled(move)) > MOST_OF_MOVE
 
 
@@ -386,7 +386,7 @@ class Search:
 
 
 class Suspicions(NamedTuple):
-    """The suspicious sentences, in lines, and why the check is incomplete. That text is empty if the check is complete."""
+    """The suspicious sentences, in lines, and why the check is incomplete. The reason is empty if the check is complete."""
 
     lines: list
     cut: str

@@ -21,7 +21,7 @@ STATUS = """RECORD is a file with a record on each line, by default standard inp
 match the description. 1: a record differs; its line says where. 2: usage error, or a file cannot be read. 3: no record is known to differ, but at
 least one could not be checked, because it took too long or the description is not supported."""
 SECONDS = 60.0
-# Nested rules are evaluated by nested calls.
+# Nested rules are evaluated with nested calls.
 MOST_CALLS = 100_000
 # The limit of memory, the same as for the grounder of `ggp-instantiate`.
 MEMORY = 2 << 30
@@ -95,7 +95,7 @@ def hold(holding: Holding, lines: Iterable[str], limit: float) -> Iterator[tuple
 
 
 def limit_memory() -> None:
-    """Limits the memory of this process, unless the limit is lower already."""
+    """Limits the memory of this process, unless there is already a lower limit."""
     soft, hard = resource.getrlimit(resource.RLIMIT_AS)
     most = min([MEMORY, *(limit for limit in (soft, hard) if limit != resource.RLIM_INFINITY)])
     resource.setrlimit(resource.RLIMIT_AS, (most, hard))

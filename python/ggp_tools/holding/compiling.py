@@ -1,4 +1,4 @@
-"""Compiles rules to Python functions, one for each relation and each set of arguments that are known when the relation is queried.
+"""Compiles rules to Python functions. There is one for each relation and each set of arguments that are known when the relation is queried.
 
 If all arguments are known, the function returns whether the sentence is true, and otherwise it returns the unknown arguments of all answers, without
 duplicates. Results are cached for each position. Relations that depend on themselves are derived completely, bottom-up from the facts. """
@@ -79,7 +79,7 @@ class Program:
         return name
 
     def table(self, key: tuple, is_timely: bool) -> int:
-        """Returns the number of a table of results. A timely table belongs to one position; other tables are permanent."""
+        """Returns the number of a table of results. A timely table belongs to one position. All other tables are permanent."""
         number = self.relations.tables.setdefault(key, len(self.relations.tables))
         if not is_timely:
             self.relations.fixed.setdefault(number, {})
@@ -116,7 +116,7 @@ class Lines:
     # ---- Terms -----------------------------------------------------------------------------------
 
     def match(self, place: int, pattern: Term, value: str, bound: Bound) -> None:
-        """Continues with the next answer if a value does not match the pattern, and binds the variables of the pattern."""
+        """Writes lines that continue with the next answer if a value does not match the pattern. Binds the variables of the pattern."""
         if is_variable(pattern) and pattern not in bound:
             bound[pattern] = value
         elif is_known(pattern, bound):
@@ -150,7 +150,7 @@ class Lines:
     # ---- Conditions without unbound variables ----------------------------------------------------
 
     def test(self, condition: Condition, bound: Bound) -> str:
-        """Returns an expression for whether a condition holds."""
+        """Returns an expression that is true if a condition holds."""
         if isinstance(condition, Either):
             return "(" + " or ".join("(" + (" and ".join(self.test(inner, bound) for inner in way) or "True") + ")" for way in condition.ways) + ")"
         if isinstance(condition, Same):
@@ -259,7 +259,7 @@ class Lines:
     # ---- Bodies ----------------------------------------------------------------------------------
 
     def body(self, place: int, conditions: Iterable[Condition], bound: Bound, finish: "Finish") -> None:
-        """Writes the lines that check all conditions, in the cheapest order, and that finish for each way to satisfy them."""
+        """Writes the lines that check all conditions in the cheapest order. `finish` writes what happens for each way to satisfy them."""
         left, depth = list(conditions), 0
         while True:
             for test in sorted((condition for condition in left if is_test(condition, bound)), key=self.cost):

@@ -14,7 +14,7 @@ from .reading import GOAL, INIT, LEGAL, NEXT, ROLE, TERMINAL, Rule, Term, one_by
 from .relations import Relations
 
 GOAL_NUMBER = re.compile(r"0|[1-9][0-9]?|100")
-# Nested rules are evaluated by nested calls, up to this depth.
+# Nested rules are evaluated with nested calls, up to this depth.
 MOST_CALLS = 20_000
 
 

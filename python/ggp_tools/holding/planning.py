@@ -10,7 +10,7 @@ from .positions import functor_of
 from .reading import DOES, TRUE, Asked, Condition, Rule, Term, variables_of
 from .relations import Relations
 
-# The assumed number of values of an argument if a relation has no rows yet, and the maximum of an estimate.
+# The number of values that an argument is assumed to have if its relation has no rows yet, and the maximum of an estimate.
 FEW, MOST = 3.0, 1e6
 # If a state has more than GROWTH times as many terms as the plan was made for, the rules are planned again.
 GROWTH, LEAST = 4, 2

@@ -17,11 +17,11 @@ OWN = (INIT, NEXT, LEGAL, GOAL, ROLE, TERMINAL)
 
 
 class NotFollowed(Refused):
-    """Why a record could not be checked. This says nothing about the game."""
+    """The reason why a record could not be checked. It says nothing about the game."""
 
 
 class Asked(NamedTuple):
-    """A sentence of a relation is true, or is not true."""
+    """The condition that a sentence of a relation is true, or that it is not true."""
 
     positive: bool
     relation: tuple
@@ -29,14 +29,14 @@ class Asked(NamedTuple):
 
 
 class Same(NamedTuple):
-    """Two terms are equal, or not equal."""
+    """The condition that two terms are equal, or that they are not equal."""
 
     positive: bool
     arguments: tuple
 
 
 class Either(NamedTuple):
-    """One of several lists of conditions holds."""
+    """The condition that at least one of several lists of conditions holds."""
 
     ways: tuple
 
@@ -45,7 +45,7 @@ Condition = Asked | Same | Either
 
 
 class Rule(NamedTuple):
-    """The sentence of a relation that is derived if all conditions hold."""
+    """A rule: if all conditions hold, it derives this sentence of the relation."""
 
     sentence: int
     relation: tuple

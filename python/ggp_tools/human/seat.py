@@ -19,7 +19,7 @@ SPARE = 0.5
 # A referee that is this many seconds late with its next message is considered lost. Then a START from another referee is accepted.
 PATIENCE = 10.0
 NO_MOVES = ("nil", ())
-# A referee introduces itself with one of these messages.
+# A sender becomes the referee with one of these messages.
 INTRODUCES = "info", "start"
 NO_MATCH = "No match yet: the referee has not sent START."
 # All messages except START have at most 16 moves of 4,096 bytes.
@@ -30,7 +30,7 @@ BAD_RULES = (Refused, RecursionError, IndexError, KeyError, TypeError, ValueErro
 
 
 class Unread(Exception):
-    """Why a text is not a message."""
+    """The reason why a text is not a message."""
 
 
 def head_of(text: str) -> tuple[str, str]:
@@ -226,7 +226,7 @@ class Seat:
             self.legal = []
             if self.sent is None:
                 self.show("late", [], "Your time is over: the referee plays your first legal move.")
-                # A connection that closes before the clock ends would be a connection error.
+                # If the connection closed before the clock ends, the referee would report a connection error.
                 self.changed.wait_for(lambda: self.asked != asked, 2 * SPARE)
             return self.sent
 
@@ -269,8 +269,8 @@ class Seat:
                 self.match, self.receiver = "", ""
 
     def leave(self, match: object) -> str | None:
-        """Leaves a match, if there is one, and accepts another referee. Returns an error, or None. Does not wait for a START whose rules take
-        long."""
+        """Leaves a match, if there is one, and accepts another referee. Returns an error, or None. This does not wait for a START whose rules take
+        long to read."""
         with self.changed:
             if match != self.match:
                 return "that match is over"

@@ -71,7 +71,7 @@ class Request(io.RawIOBase):
         return self.received / (time.monotonic() - self.began + 0.001)
 
     def is_whole(self) -> None:
-        """Notes that the request has arrived: the connection no longer gives way, and the answer has another deadline."""
+        """Records that the request has arrived: the connection no longer gives way, and the answer gets a deadline of its own."""
         self.is_idle = False
         self.connection.settimeout(PATIENCE)
 
@@ -231,7 +231,7 @@ class Server(ThreadingHTTPServer):
 
     @contextlib.contextmanager
     def reading(self, request: Request) -> Iterator[None]:
-        """Lets a long body be read. If there are too many, the slowest one of the client that has the most gives way."""
+        """Allows a long body to be read. If there are too many, the slowest one of the client that has the most gives way."""
         with self.visitors.lock:
             if len(self.readers) == MOST_LONG:
                 counts = Counter(reader.client for reader in (*self.readers, request))

@@ -20,20 +20,20 @@ from ggp_tools.gdl import GAME, Rule
 
 # The numbers of the formulas of a body.
 Formed = frozenset[int]
-# Joined sentences are nested at most this deep.
+# Joined sentences are nested at most this deeply.
 MOST_DEEP = 48
 ROUNDS = 30
 # A lower bound for the bytes of a sentence with a condition, if the names in it are as short as those of parts.
 LEAST_BYTES = 24
 
 
-# In all games that were tried, factoring takes at least MORE_WORK times the work of the first estimate. If sentences must be inlined, the text
-# shrinks at most by the factor SHORTER.
+# In all tested games, factoring took at least MORE_WORK times the work of the first estimate. If sentences must be inlined, the text shrinks at most
+# by the factor SHORTER.
 MORE_WORK, SHORTER = 1.5, 2
 
 
 class Hopeless(Refused):
-    """The game exceeds a limit no matter how it is factored, or factoring it takes more work than allowed."""
+    """The game exceeds a limit however it is factored, or factoring takes more work than allowed."""
 
 
 class Target(NamedTuple):
@@ -95,7 +95,7 @@ class Folded:
     # ---- Origins ---------------------------------------------------------------------------------
 
     def costs(self, is_bytes: bool) -> Counter[int]:
-        """Returns how many bytes or sentences of the output come from each sentence of the description."""
+        """Returns how many bytes or sentences of the output are due to each sentence of the description."""
         costs, asked_by, known = Counter(), self.asked_by(), {}
         for head, bodies in self.bodies.items():
             for body in bodies:
@@ -124,7 +124,7 @@ class Folded:
         return known[part]
 
     def take_origins(self, head: int, body: Formed, new: Formed, by: dict[int, int]) -> None:
-        """Records the origins of a body after replacing heads by formulas. The added bytes come from the rules of these heads."""
+        """Records the origins of a body after replacing heads with formulas. The added bytes come from the rules of these heads."""
         own = self.origins[head][new]
         own.update(scaled(self.origins[head][body], self.sentence_size(head, body)))
         grown = self.sentence_size(head, new) - self.sentence_size(head, body)
@@ -150,7 +150,7 @@ class Folded:
                 self.bodies[head] = self.cache[head, merged] = merged(bodies, self.formulas, self.origins[head])
 
     def settle(self) -> None:
-        """Replaces heads that are always or never true by constants."""
+        """Replaces heads that are always or never true with constants."""
         while True:
             known = {head: TRUE for head, bodies in self.bodies.items() if frozenset() in bodies and head not in self.own}
             known |= {head: FALSE for head, bodies in self.bodies.items() if not bodies}
@@ -159,7 +159,7 @@ class Folded:
             self.put(known)
 
     def put(self, by: dict[int, int]) -> None:
-        """Replaces heads by formulas, and removes these heads."""
+        """Replaces heads with formulas, and removes these heads."""
         for head in by:
             del self.bodies[head]
             self.own.discard(head)
@@ -180,7 +180,7 @@ class Folded:
             self.origins.pop(head, None)
 
     def factored(self, bodies: list[Formed], depth: int = 0) -> int:
-        """Returns one formula that is true if some body is. Formulas that bodies share are factored out."""
+        """Returns one formula that is true if one of the bodies is true. Formulas that bodies share are factored out."""
         if frozenset() in bodies:
             return TRUE
         if len(bodies) == 1:
@@ -268,8 +268,8 @@ class Folded:
             self.settle()
 
     def must_have_room(self, target: Target) -> None:
-        """Refuses a game that cannot be factored to a target, before much work is done. The sentences of the game's own relations stay, so the others
-        above the limit must be inlined. The cost of that in bytes can only grow later."""
+        """Refuses a game that cannot be factored to within a target, before much work is done. The sentences of the game's own relations stay, so the
+        others above the limit must be inlined. The cost of that in bytes can only grow later."""
         if len(self.own) > target.sentences:
             raise Hopeless(f"sentences (at least {len(self.own):,} of {target.sentences:,})")
         many = len(self.bodies) - target.sentences
@@ -285,7 +285,7 @@ class Folded:
             self.must_be_short(target)
 
     def must_be_short(self, target: Target) -> None:
-        """Refuses a game that is expected to exceed a target of limited work. This is an estimate."""
+        """Refuses a game that is likely to exceed a target with limited work. The length is only estimated."""
         if target.work < math.inf and self.bytes() > SHORTER * target.bytes:
             raise Hopeless(f"bytes (about {self.bytes() // SHORTER:,} of {target.bytes:,})")
 
@@ -320,7 +320,7 @@ class Folded:
     # ---- Common parts ----------------------------------------------------------------------------
 
     def shorten(self) -> None:
-        """Replaces each formula by its shortest form."""
+        """Replaces each formula with its shortest form."""
         known = {}
         for head, bodies in self.bodies.items():
             self.rewrite(head, [self.shortest_body(body, known) for body in bodies])
@@ -337,7 +337,7 @@ class Folded:
         return frozenset(formulas)
 
     def share_bodies(self, most: int) -> None:
-        """Makes a sentence of each body that many sentences have, if this makes the text smaller, up to `most` sentences."""
+        """Turns each body that many sentences have into a sentence, if this makes the text smaller, up to `most` sentences."""
         counts = Counter(body for bodies in self.bodies.values() for body in bodies if len(body) > 1)
         name_size, gains = len(self.word) + 4, []
         for place, (body, count) in enumerate(counts.items()):
@@ -357,7 +357,7 @@ class Folded:
         return self.formulas.atom(f"{self.word}{self.part_count}")
 
     def share(self, most: int) -> None:
-        """Makes a sentence of each formula that many sentences share, if this makes the text smaller, up to `most` sentences."""
+        """Turns each formula that many sentences share into a sentence, if this makes the text smaller, up to `most` sentences."""
         refs = Counter(formula for bodies in self.bodies.values() for body in bodies for formula in body)
         nodes, sizes = self.formulas.nodes, self.formulas.sizes
         for number in range(len(nodes) - 1, -1, -1):

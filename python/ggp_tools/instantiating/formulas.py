@@ -90,7 +90,7 @@ class Formulas:
         return [number]
 
     def allowed(self, number: int) -> tuple[Expression, frozenset[int]] | None:
-        """Returns the role and the moves for which a formula is true if it is only about the moves of one role, or else None."""
+        """If a formula is only about the moves of one role, returns the role and the moves for which the formula is true. Otherwise returns None."""
         node = self.nodes[number]
         if node[0] == "not":
             inner = self.allowed(node[1])
@@ -142,7 +142,7 @@ class Formulas:
         return "or", *map(self.expression, node[1])
 
     def replaced(self, number: int, known: dict[int, int], is_simplified: bool) -> int:
-        """Returns the formula with those parts replaced that are in `known`, which is also the cache. It may be simplified."""
+        """Returns the formula with the parts that are in `known` replaced. `known` is also the cache. The result may be simplified."""
         if number not in known:
             node = self.nodes[number]
             if node[0] == "not":

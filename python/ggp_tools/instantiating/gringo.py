@@ -53,7 +53,7 @@ class LogicProgram:
             return [rule_line(self.atom(rule.head, names), body)]
         shown = [literal for literal in rule.body if not self.is_settled(literal)]
         needed = variables((rule.head, *(literal.atom for literal in shown)))
-        # Ways of one sentence that differ only in settled literals share their instances.
+        # If two ways to satisfy a sentence differ only in settled literals, they share their instances.
         kept = Rule(rule.sentence, rule.head, tuple(shown))
         name = self.names.setdefault(kept, f"i{len(self.kept)}")
         instance = applied(name, [names[name] for name in needed])
@@ -175,5 +175,5 @@ def limit_process(seconds: float) -> None:
     resource.setrlimit(resource.RLIMIT_AS, (MEMORY, MEMORY))
     if seconds < math.inf:
         most = math.ceil(seconds)
-        # At the hard limit the process would be killed without SIGXCPU, and only that signal shows the reason.
+        # At the hard limit the process would be killed without SIGXCPU, and only SIGXCPU shows the reason.
         resource.setrlimit(resource.RLIMIT_CPU, (most, most + 1))

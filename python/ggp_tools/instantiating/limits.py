@@ -1,4 +1,4 @@
-"""The limits of the referee, what it refuses in ground rules, and rules that derive infinitely many instances."""
+"""The limits of the referee, the ground rules that it refuses, and rules that derive infinitely many instances."""
 
 import re
 from collections import Counter
@@ -40,7 +40,7 @@ def is_high(atom: Expression) -> bool:
 
 
 def refuse_faults(rules: list[Rule]) -> None:
-    """Refuses what the referee refuses: invalid goals, roles with conditions, and a game without roles."""
+    """Refuses rules that the referee refuses: invalid goals, roles with conditions, and a game without roles."""
     for rule in rules:
         for atom in rule.atoms():
             if relation(atom)[0] == "goal" and not (isinstance(atom[2], str) and GOAL.fullmatch(atom[2])):
@@ -77,7 +77,7 @@ def figures(written: list[Numbered], size: int) -> Iterator[Figure]:
 
 
 def costs_of(written: list[Numbered], is_bytes: bool) -> Counter[int]:
-    """Returns how many bytes or sentences of the output come from each sentence of the description, without factoring."""
+    """Returns how many bytes or sentences of the output are due to each sentence of the description, without factoring."""
     costs = Counter()
     for number, sentence in written:
         costs[number] += len(spelled(sentence)) + 1 if is_bytes else 1

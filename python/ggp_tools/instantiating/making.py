@@ -17,14 +17,14 @@ WHERE_NEEDED, ALWAYS, NEVER = "where needed", "always", "never"
 FOLDABLE = ("sentences", "atomic sentences", "bytes")
 # A longer game is factored if possible, even if it fits the limits of --large, because each process that loads a game needs memory for all of it.
 LONG = {"sentences": 65536, "bytes": 4194304}
-# More than this many times a limit is far past it.
+# A quantity is far past its limit if it is more than this many times the limit.
 FAR = 4
 # The maximum work of factoring a game to within the usual limits, about twenty seconds of processor time. It is counted in steps, so that the
 # result is the same on every machine.
 MOST_WORK = 400_000
 # After this many seconds intermediate results are reported at once.
 SOON = 2
-# With up to this many instances, a description is tried unchanged first. This form gives the best result, and is factored within seconds.
+# A description with at most this many instances is first tried unchanged. That form gives the best result, and factoring it takes only seconds.
 FEW_INSTANCES = 1 << 16
 
 
@@ -179,7 +179,7 @@ class Making:
         return rules
 
     def know(self, words: str) -> None:
-        """Records a fact about a form. A run that takes long reports it at once."""
+        """Records a fact about a form. If the run has already taken long, this reports the fact at once."""
         self.known.append(words)
         if time.monotonic() - self.began > SOON:
             report(f"  after {time.monotonic() - self.began:.0f} s: {words}")
@@ -188,10 +188,10 @@ class Making:
         """Returns the reason with the facts that are known about the instances."""
         why = "; ".join([why, *self.known])
         rule = next(filter(limits.is_endless, self.rules), None)
-        # The derived terms must actually grow: a sentence without instances derives nothing.
+        # Terms grow only if the sentence has instances: without any, it derives nothing.
         if rule and self.grounder and self.grounder.lists_in(rule) > spelled(self.sentences[rule.sentence]).count("("):
             why = f"there are infinitely many instances: {why}; {self.cited(rule.sentence)}, derives ever larger terms from its own"
-        # After unrolling, there are too many rounds, and not too many instances.
+        # After unrolling, the reason is too many rounds, not too many instances.
         if self.grounder and not self.is_unrolled and (largest := self.grounder.largest()):
             why += f"; the most instances, {largest[1]:,}, are those of {self.cited(largest[0])}"
         return why

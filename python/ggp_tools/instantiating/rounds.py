@@ -20,7 +20,7 @@ from ggp_tools.printable import counted
 # The rules of each sentence.
 RulesFor = dict[Expression, list[Rule]]
 MOST_RULES = 2_000_000
-# An error names at most this many sentences of a cycle.
+# An error lists at most this many sentences of a cycle.
 MOST_NAMED = 6
 
 

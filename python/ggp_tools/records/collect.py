@@ -1,4 +1,5 @@
-"""Sorts files of mixed records by game, checks each record, and writes them as tables, pages, facts, matches of ggp-base, or text like PGN.
+"""Reads files with records of several games, finds the game of each record, checks the record, and writes them all as tables, pages, facts, matches
+of ggp-base, or text like PGN.
 
     ggp-records --rules RULES check [--explain] PILE ..
     ggp-records --rules RULES sqlite FILE PILE ..
@@ -79,14 +80,14 @@ def row_of(judged: Judged) -> str:
 
 
 def explained(judged: Judged) -> list[str]:
-    """Explains why a line is not a lawful record, as far as this is known."""
+    """Explains why a line is not a lawful record, if this is known."""
     if judged.game and judged.verdict.startswith(NOT_LAWFUL):
         return explanation(judged.verdict.removeprefix(NOT_LAWFUL), judged.game.rules, judged.line.data)
     return json_lines(judged.line.data)[1:] if judged.line.record is None and judged.line.data else []
 
 
 def print_check(lines: Iterable[Judged], explains: bool) -> None:
-    """Prints a line for each record and, if wanted, explanations of those that are not lawful."""
+    """Prints a line for each record. If `explains` is set, this also explains why records are not lawful."""
     for judged in lines:
         say("\n\t".join([row_of(judged), *map(shown, explained(judged) if explains else ())]))
 

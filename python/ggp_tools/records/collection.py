@@ -28,7 +28,7 @@ NO_GAME, NO_RECORD = "no game has its roles", "no record: "
 
 @dataclass(frozen=True, eq=False)
 class KnownGame:
-    """A game of the directory of rules. `name` is the name of the file, `rules` are the rules for the interpreter, and `first` is the first state."""
+    """A game of the directory of rules. `name` is the name of the file, `rules` has the rules for the interpreter, and `first` is the first state."""
 
     name: str
     path: str
@@ -54,7 +54,7 @@ class Line:
 
     @property
     def shaped(self) -> dict | None:
-        """The record, if the line has the shape of one."""
+        """Returns the record, if the line has the shape of one."""
         with contextlib.suppress(NoRecord):
             return checked_record(dict(self.record or {}))
         return None

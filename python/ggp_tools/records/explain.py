@@ -41,7 +41,7 @@ def listed(texts: Sequence[str]) -> str:
 
 
 def end_words(phase: str, cause: str | None, names: Sequence[str]) -> str:
-    """Returns a phase with its cause, and the name of the role if the cause has the number of one."""
+    """Describes a phase with its cause. If the cause has the number of a role, the name of the role follows."""
     number = (cause or "").partition(" ")[2]
     return f"phase {phase}, cause {cause or 'null'}" + (f" (the role {names[int(number)]})" if number else "")
 
@@ -57,12 +57,12 @@ WHY = {
 }
 
 
-# A fault as `verify` prints it, and the lines that explain it.
+# An error as `verify` prints it, and the lines that explain it.
 Found = tuple[str, ...]
 
 
 class Replay(Match):
-    """Replays a record of the right shape in the interpreter."""
+    """Replays a record that has the right shape in the interpreter."""
 
     def __init__(self, game: Game, record: dict, names: Sequence[str]) -> None:
         super().__init__(game, record["matchId"], record["startClock"], record["playClock"], record["players"])
@@ -168,7 +168,7 @@ class Replay(Match):
 
 
 def explanation(word: str, game: Game, data: bytes) -> list[str]:
-    """Returns the lines that explain the fault that the referee reports."""
+    """Returns the lines that explain the error that the referee reports."""
     if word == "json":
         first, *more = json_lines(data)
         return [f"The text is not JSON: {first}.", *more]
@@ -189,7 +189,7 @@ def explanation(word: str, game: Game, data: bytes) -> list[str]:
 
 
 def judged(program: str, words: list[str], data: bytes, count: int = 1) -> list[str | None]:
-    """Returns, for each record, the fault that the referee reports, or None if the record is lawful. None of the records belongs to a call log."""
+    """Returns, for each record, the error that the referee reports, or None if the record is lawful. None of the records belongs to a call log."""
     try:
         run = subprocess.run([program, "verify", JSON, *words], input=data, capture_output=True)
     except (OSError, ValueError) as why:

@@ -85,8 +85,8 @@ class Exchanges:
 
 
 def messages_of(exchanges: Exchanges, logged: Beginning) -> list[list[list | None]] | str:
-    """Returns the messages of each role as kind and milliseconds, or None for a missing line. If the log does not belong to the record, returns the
-    reason."""
+    """Returns the messages of each role, each as its kind and its milliseconds, or as None if its line is missing. If the log does not belong to the
+    record, returns the reason."""
     messages: list[list[list | None]] = [[None] * exchanges.last(role) for role in range(len(exchanges.players))]
     for role, number, kind, milliseconds, known in logged.messages():
         if not exchanges.has(role, number, KINDS[kind], known):
@@ -99,7 +99,7 @@ def messages_of(exchanges: Exchanges, logged: Beginning) -> list[list[list | Non
 
 
 class Facts:
-    """Makes the lines of JSON, and collects the reasons for ignoring logs."""
+    """Makes the lines of JSON, and collects the reasons why logs were ignored."""
 
     def __init__(self, checked_by: str, refereed_by: str | None, descriptions: dict[str, str], logs: MatchLogs) -> None:
         self.checked_by, self.refereed_by, self.descriptions, self.logs = checked_by, refereed_by, descriptions, logs
@@ -144,7 +144,7 @@ class Facts:
         }
 
     def without_log(self, data: bytes) -> bytes:
-        """Returns a line without the values from a log if several matches have its id."""
+        """Returns the line of a record. If several matches have its id, the line has no values from a log."""
         values = json.loads(data)
         if self.faults.get(values["id"]) != TWO_RECORDS:
             return data

@@ -7,7 +7,7 @@ from collections.abc import Iterable
 from dataclasses import dataclass
 
 LONGEST = 6
-# How many letters at the end of a long text are kept, in the order in which these numbers are tried. The rest of five letters is its beginning.
+# A long text is shortened to five letters: this many at its end, and the others at its beginning. The numbers are tried in this order.
 TAILS = (2, 3, 1, 4)
 CUT = "\N{HORIZONTAL ELLIPSIS}"
 # Without this some browsers draw a pawn as an emoji.
@@ -134,7 +134,7 @@ def shortened(texts: Iterable[str]) -> dict[str, str]:
 
 
 def numbered(texts: list[str], taken: set[str]) -> dict[str, str]:
-    """Returns the beginning of each text with a number, so that the result is not taken."""
+    """Returns the beginning of each text, with a number that makes the result unique."""
     names, number = {}, 0
     for text in texts:
         number += 1

@@ -15,7 +15,7 @@ from ggp_tools.streams import opened
 
 # The names of logs of matches that do not count in a competition.
 SET_ASIDE = re.compile(r".*\.(refused|unchecked|differs)(\.\d+)?")
-# This many different beginnings of an id show that it is not unique.
+# If an id has this many different beginnings, it is not unique.
 SEVERAL = 2
 
 

@@ -186,7 +186,8 @@ def refuse_key(key: str, record: dict) -> None:
 
 
 def check_lengths(record: dict, is_cut: bool) -> None:
-    """Checks that lists by role have one member for each role, and that there is one state more than turns. A cut record may have fewer states."""
+    """Checks that lists by role have one member for each role, and that there is one more state than there are turns. A truncated record may have
+    fewer states."""
     roles, turns = len(record["roles"]), len(record["moves"])
     lengths = {"players": [roles], "startMarks": [roles], "endMarks": [roles], "goalValues": [0, roles], "errors": [turns], "states": [turns + 1]}
     if is_cut:
@@ -200,7 +201,7 @@ def check_lengths(record: dict, is_cut: bool) -> None:
 
 
 def checked_record(record: object, is_cut: bool = False) -> dict:
-    """Checks the shape of a record, as far as a page needs it, and fills in version 1. A cut record lacks its last states."""
+    """Checks the shape of a record, as far as a page needs it, and adds the keys that version 1 lacks. A truncated record lacks its last states."""
     if not isinstance(record, dict):
         raise NoRecord("it is JSON, but not an object")
     record.setdefault("version", 1)

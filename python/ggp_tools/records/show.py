@@ -103,7 +103,7 @@ def record_of(file: BinaryIO) -> bytes:
 
 @functools.lru_cache(MOST_TERMS)
 def words_of(term: str) -> list[str]:
-    """Returns the members of a term if it is a list of atoms, or else an empty list."""
+    """Returns the members of a term if the term is a list of atoms, or else an empty list."""
     is_flat = term.startswith("(") and term.endswith(")") and not re.search(r"[()]", term[1:-1])
     return term[1:-1].split(" ") if is_flat else []
 
@@ -349,8 +349,8 @@ def board_page(
 def states_of_page(
     states: list[list[str]], roles: Sequence[str], named: Named = Named(), since: int = 0, most: float = math.inf, is_played: bool = False
 ) -> Iterator[dict[str, Any]]:
-    """Yields each state from the number `since` on: its boards, unless they have more than `most` places in total, the role whose turn it is, if the
-    state names it, and the terms that no board shows: the current, previous and removed ones."""
+    """Yields each state, beginning with number `since`: its boards, unless they have more than `most` places in total; the role whose turn it is, if
+    the state names it; and the terms that no board shows: the current, previous and removed ones."""
     boards = boards_of(states, named)
     is_drawn = len(boards) * (len(states) - since) <= MOST_DRAWN and sum(board.size(is_played) for board in boards) <= most
     boards = boards if is_drawn else []
@@ -373,12 +373,12 @@ def states_of_page(
 
 
 def quick(named: Named) -> Named:
-    """Returns the names without those in the rules, if the rules have too many."""
+    """Returns the names, or, if the rules have too many of them, the names without those in the rules."""
     return Named(is_hex=named.is_hex) if sum(map(len, named.terms.values())) > MOST_READ else named
 
 
 def last_state(states: list[list[str]], roles: Sequence[str], named: Named, is_played: bool = False) -> dict[str, Any] | None:
-    """Returns the drawing of the last state, if there is one, with as many states before it as may be read."""
+    """Returns the drawing of the last state, if there is one. It takes as many earlier states into account as may be read."""
     count = sum(size <= MOST_READ for size in itertools.accumulate(map(len, reversed(states))))
     if states and not count:
         return LISTED | {"terms": states[-1]}
@@ -414,7 +414,7 @@ def turn_of_page(moves: Sequence[str], errors: Sequence[str], mover: int | None,
 
 
 def weight_of(state: list[str]) -> int:
-    """Returns how many terms of a state are drawn. Long terms count more."""
+    """Returns how many terms of a state are drawn. A long term counts as several."""
     if sum(map(len, state)) <= LETTERS * len(state):
         return len(state)
     return max(len(state), sum(min(len(term), MOST_SHOWN) for term in state) // LETTERS)

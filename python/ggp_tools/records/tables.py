@@ -74,7 +74,7 @@ def all_rows(lines: Iterable[Judged]) -> Iterator[tuple[str, Row]]:
 
 @contextlib.contextmanager
 def made_whole(path: pathlib.Path) -> Iterator[pathlib.Path]:
-    """Yields a temporary path. After the file is written, renames it to the final path, which must not exist."""
+    """Yields a temporary path. Once the file is written, renames it to the final path, which must not exist yet."""
     with tempfile.TemporaryDirectory(prefix=".ggp-records-", dir=path.parent) as folder:
         made = pathlib.Path(folder, "made")
         yield made

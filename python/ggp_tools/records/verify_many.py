@@ -68,7 +68,7 @@ def write_whole(stream: int, text: bytes) -> None:
 
 
 def say(text: bytes) -> None:
-    """Writes to standard error and ignores errors."""
+    """Writes to standard error, and ignores errors of that."""
     with contextlib.suppress(OSError):
         write_whole(2, text)
 
@@ -130,7 +130,7 @@ def feed(words: list[str], jobs: int, size: int, checks: queue.Queue) -> None:
         for piece in pieces(size):
             checks.put(pool.submit(check, words, piece))
     except RuntimeError:
-        # Failing to start a thread counts as running out of memory.
+        # If a thread cannot be started, this counts as running out of memory.
         ended.set_exception(MemoryError())
     except (Fault, MemoryError) as why:
         ended.set_exception(why)
@@ -190,7 +190,7 @@ def main() -> int:
     parsed, options = arguments(sys.argv[1:])
     hold_closed_streams()
     if signal.getsignal(signal.SIGINT) is signal.default_int_handler:
-        # Ctrl-C ends this command and its processes alike. Any that remain end with their input.
+        # Ctrl-C ends this command and its processes. Processes that remain end when their input ends.
         signal.signal(signal.SIGINT, signal.SIG_DFL)
     status = 0
     try:
@@ -201,6 +201,6 @@ def main() -> int:
     except MemoryError:
         say(b"ggp_manager: want of memory\n")
         status = 2
-    # A thread may still wait for input, and everything is written.
+    # A thread may still be waiting for input, but everything has been written.
     os._exit(status)
 
