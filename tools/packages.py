@@ -118,7 +118,7 @@ def install(packages: Sequence[str]) -> bool:
 def lack_of_rights() -> str | None:
     """Returns why the gate's tests cannot run in this process (they make networks, mount a disk and run as another user), or None."""
     if os.geteuid():
-        return 'the gate needs root, since its tests make networks and mount disks: type: sudo env "PATH=$PATH" make gate'
+        return 'the gate needs root, because its tests make networks and mount disks: type: sudo env "PATH=$PATH" make gate'
     made = subprocess.run(["unshare", "--net", "--mount", "true"], stdin=subprocess.DEVNULL, stderr=subprocess.PIPE, text=True)
     return f"the gate's tests make networks and mount disks, which this machine refuses: {made.stderr.strip()}" if made.returncode else None
 
@@ -131,7 +131,7 @@ def install_missing(needs: Sequence[Need] = NEEDS) -> str | None:
     packages = [need.package for need in lacking]
     if not can_install():
         return f"missing: {spell_missing(lacking)}. In Debian, type: sudo {' '.join(installing(packages))}"
-    print(f"needs: installing {' '.join(packages)}, since these are missing: {spell_missing(lacking)}", flush=True)
+    print(f"needs: installing {' '.join(packages)}, because these are missing: {spell_missing(lacking)}", flush=True)
     if not install(packages):
         return f"apt-get cannot install {' '.join(packages)}; its messages are above"
     lacking = missing(needs)

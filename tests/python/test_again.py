@@ -103,7 +103,7 @@ class OrderedAgain(unittest.TestCase):
         self.assert_refused("cup-001 does not count, so `ggp_competition play` plays it again: its call log is missing", "cup-001")
         self.folder.account("cup-001").write_bytes(ACCOUNT)
         self.folder.record("cup-001").write_bytes(RECORD.replace(b'"playClock":5', b'"playClock":6'))
-        self.assert_refused("cup-001 does not count, so `ggp_competition play` plays it again: its playClock is 6, and the schedule has 5", "cup-001")
+        self.assert_refused("cup-001 does not count, so `ggp_competition play` plays it again: its playClock is 6, but the schedule has 5", "cup-001")
         self.folder.record("cup-001").write_bytes(RECORD)
         self.plan.matches[0], self.plan.rounds = dataclasses.replace(self.plan.matches[0], round=1), [object(), object()]
         self.assert_refused("cup-001 can't be played again: it is in round 1, and the next round was paired by the results of that round", "cup-001")

@@ -45,7 +45,7 @@ GROWN = {
     "a forfeit is taken away": (changed("cup/table.json", lambda text: text.replace(b'"lost_by_forfeit": 4', b'"lost_by_forfeit": 0')), "table.json does not follow"),
 }
 SWISS = {
-    "a pairing is another": (changed("cup/schedule.tsv", lambda text: re.sub(rb"(cup-003.*\t)(\w+) (\w+)\n", rb"\1\3 \2\n", text)), "records/cup-003.json: its players is ['cid', 'ann'], and the schedule has ['ann', 'cid']"),
+    "a pairing is another": (changed("cup/schedule.tsv", lambda text: re.sub(rb"(cup-003.*\t)(\w+) (\w+)\n", rb"\1\3 \2\n", text)), "records/cup-003.json: its players is ['cid', 'ann'], but the schedule has ['ann', 'cid']"),
     "the last round is taken away": (without_round_2, "GAPS.tsv is missing"),
     "there is another number of rounds": (changed("cup/competition.toml", lambda text: text.replace(b"rounds = 2", b"rounds = 3")), "GAPS.tsv is missing"),
     "there are fewer rounds": (changed("cup/competition.toml", lambda text: text.replace(b"rounds = 2", b"rounds = 1")), "schedule.tsv does not agree with"),

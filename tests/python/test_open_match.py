@@ -333,7 +333,7 @@ class Checking(WithMatch):
 
     def test_files_that_are_not_of_this_match(self):
         other = self.record.replace(b'"matchId": "cup-001"', b'"matchId": "cup-009"')
-        self.assertEqual(self.checked(other + self.account), ("its matchId is 'cup-009', and the schedule has 'cup-001'", []))
+        self.assertEqual(self.checked(other + self.account), ("its matchId is 'cup-009', but the schedule has 'cup-001'", []))
         self.begin(self.HEAD)
         other = self.account.replace(b"cup-001", b"cup-002")
         self.assertEqual(self.checked(self.record + self.account + other), ("line 2 of its call log belongs to another match: 0 open cup-002 0 10 10 opened", []))

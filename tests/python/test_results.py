@@ -34,7 +34,7 @@ class Faults(unittest.TestCase):
             ("playClock", 4, "the schedule"), ("strikes", 0, "competition.toml"),
         ):
             said = fault_of_record(record(**{key: value}), MATCH, 2)
-            self.assertEqual(said, f"its {key} is {value!r}, and {source} has {RECORD[key]!r}")
+            self.assertEqual(said, f"its {key} is {value!r}, but {source} has {RECORD[key]!r}")
 
     def test_a_match_that_is_not_over_is_a_fault(self):
         for phase in ("starting", "playing", "stopping", "aborting"):

@@ -155,7 +155,7 @@ class ByRounds(unittest.TestCase):
         self.assert_refused("schedule.tsv does not agree with")
         # The message says why a record does not count.
         right = first.read_text()
-        for text, why in ((right.replace('"matchId"', '"wrong": 1, "matchId"'), "not lawful: goals"), (right.replace('"strikes": 0', '"strikes": 1'), "its strikes is 1, and competition.toml has 0")):
+        for text, why in ((right.replace('"matchId"', '"wrong": 1, "matchId"'), "not lawful: goals"), (right.replace('"strikes": 0', '"strikes": 1'), "its strikes is 1, but competition.toml has 0")):
             first.write_text(text)
             self.assert_refused(f"{first}: {why}")
         first.write_text(right)

@@ -242,7 +242,7 @@ class Pages(Served):
         bad = (
             ({"goalValues": [0, 10**400]}, "one of its goals is not from 0 to 100"),
             ({"goalValues": [101, 0]}, "one of its goals is not from 0 to 100"),
-            ({"moves": [["noop", "noop"]] * 10_001, "errors": [["", ""]] * 10_001, "states": [[]] * 10_002}, "it has 10,001 turns, and a match has at most 10,000"),
+            ({"moves": [["noop", "noop"]] * 10_001, "errors": [["", ""]] * 10_001, "states": [[]] * 10_002}, "it has 10,001 turns, but a match can have at most 10,000"),
             ({"matchId": "x" * 10**6}, "..,"), ({"startClock": 10**400}, "..,"), ({"errors": [["", 1]]}, "expected in errors: for each turn of moves a list with one text for each role"),
         )
         for wrong, said in bad:

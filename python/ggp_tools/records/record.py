@@ -201,7 +201,7 @@ def check_lengths(record: dict, is_cut: bool) -> None:
 
 
 def checked_record(record: object, is_cut: bool = False) -> dict:
-    """Checks the shape of a record, as far as a page needs it, and adds the keys that version 1 lacks. A truncated record lacks its last states."""
+    """Checks the shape of a record, as far as a page needs it, and sets a missing version to 1. A truncated record lacks its last states."""
     if not isinstance(record, dict):
         raise NoRecord("it is JSON, but not an object")
     record.setdefault("version", 1)
