@@ -81,7 +81,7 @@ def text_sum(names, parts=PARTS):
 
 
 def made_from(parts=PARTS):
-    """Returns what the program is made from, in lines: the toolchain, and a checksum of the text."""
+    """Describes what the program is made from, in lines: the toolchain, and a checksum of the text."""
     return f"kit: {toolchain_version()}\ntext: {text_sum(with_below([PROGRAM], crates()), parts)}\n"
 
 

@@ -91,7 +91,7 @@ def contract_of(crate, name):
 
 
 def says(crate, contracts, name):
-    """Returns whether one of the contracts has a clause of this name. A name with a capital letter is that of a definition: it must occur in the
+    """Returns whether one of the contracts has a clause with this name. A name with a capital letter is that of a definition: it must occur in the
     contracts or in the definitions of the crate."""
     if name[0].isupper():
         return any(re.search(rf"\b{name}\b", text) for text in [*contracts, definitions(crate)])

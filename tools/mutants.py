@@ -17,7 +17,7 @@ EXCHANGED = {
 OTHER_CALLS = {"min": "max", "max": "min", "any": "all", "all": "any", "set": "list", "reversed": "iter"}
 # Methods that return a value of the same type.
 SAME_KIND = ("strip", "lstrip", "rstrip", "lower", "upper", "copy", "removeprefix", "removesuffix")
-# Swapping arguments of these functions changes nothing, or fails in every run.
+# Swapping the arguments of these functions changes nothing, or causes an error in every run.
 SHOWN_AT_ONCE = ("min", "max", "range", "print", "isinstance", "map", "filter", "decode", "encode", "sub", "get", "getattr", "open")
 # The fields of types and decorators, which are not mutated.
 IGNORED = ("annotation", "returns", "decorator_list")

@@ -124,7 +124,7 @@ def lack_of_rights() -> str | None:
 
 
 def install_missing(needs: Sequence[Need] = NEEDS) -> str | None:
-    """Installs missing packages. Returns why something is still missing, and what to type, or None."""
+    """Installs missing packages. Returns a message about packages that are still missing, and what to type, or None."""
     lacking = missing(needs)
     if not lacking:
         return None

@@ -1,4 +1,4 @@
-"""Runs work in parallel, as much as this computer can do at once, and prints a line as each piece begins and ends, with the estimated time left."""
+"""Runs pieces of work in parallel, as many as this computer can handle, and prints a line when each begins and ends, with the estimated time left."""
 import os
 import re
 import threading

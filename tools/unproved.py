@@ -1,4 +1,4 @@
-"""Compiles programs without proofs by `rt try`. At its end `rt try` deletes the program, so the program is copied while it runs."""
+"""Compiles programs without proofs, with `rt try`. At its end `rt try` deletes the program, so the program is copied while it runs."""
 import glob
 import os
 import shutil

@@ -90,7 +90,7 @@ def asked_by_bytes(program, words, count):
             for _ in range(count):
                 ours.send(b"a")
         except OSError:
-            # The program has read enough.
+            # The program has stopped reading.
             pass
         ours.close()
         output, errors = child.communicate()
