@@ -62,7 +62,7 @@ def tokens(text: str, takes_bytes: bool = False) -> Iterator[tuple[str, int, int
     for token in TOKEN.finditer(text):
         if token[0] == ")":
             if not opened:
-                raise KifFault("a `)` with no open list", token.start(), "a sentence before it may have a `)` too many")
+                raise KifFault("a `)` with no open list", token.start(), "an earlier sentence may have one `)` too many")
             opened.pop()
         yield token[0], token.start(), len(opened)
         if token[0] == "(":

@@ -25,7 +25,7 @@ def message_lines(data: bytes) -> list[str]:
 
 
 def visible(text: str) -> str:
-    """Replaces each character that is not printable ASCII by its code."""
+    """Replaces each character that is not printable ASCII with its code."""
     if text.isascii() and text.isprintable():
         return text
     return "".join(letter if " " <= letter <= "~" else f"\\u{{{ord(letter):x}}}" for letter in text)

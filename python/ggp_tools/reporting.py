@@ -53,7 +53,8 @@ class Journal:
 
 class Reporter:
     """Writes lines to standard output and, if standard error is a terminal, rewrites one line there. The first error of standard output is kept in
-    `fault`, because open matches must go on. Errors of the terminal are ignored: this line only repeats what is reported elsewhere."""
+    `fault`, because open matches must go on. Errors of the terminal are ignored, because this line only repeats information that is reported
+    elsewhere."""
 
     def __init__(self, journal: Journal | None = None) -> None:
         self.fault, self.journal = None, journal

@@ -1,4 +1,4 @@
-"""Renders pages from `templates`. Every value is escaped, and characters that are not printable ASCII are shown as their codes."""
+"""Renders pages from `templates`. Every value is escaped, and characters that are not printable ASCII are replaced with their codes."""
 
 import base64
 import functools

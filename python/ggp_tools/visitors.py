@@ -1,4 +1,4 @@
-"""Limits the connections of a server. If there are too many, one gives way: the oldest one that has not sent its whole request, or else one of the
+"""Limits the connections of a server. If there are too many, one is closed: the oldest one that has not sent its whole request, or else one of the
 client that has the most connections."""
 
 import contextlib

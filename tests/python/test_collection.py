@@ -84,7 +84,7 @@ class Piles(InFolder):
         for data, record, said in (
             (b'{"matchId":"m"}', {"matchId": "m"}, ""), (b"[]", None, "it is JSON, but not an object"), (b"7", None, "it is JSON, but not an object"),
             (b"[" * 99_999, None, f"it is not JSON: {NO_PLACE}"), (b"{", None, "it is not JSON: line 1, column 2: a key is missing"), (b"", None, "it is not JSON: it is empty"),
-            (b" ", None, "it is not JSON: it is empty"), (b"{} {}", None, "it is not JSON: line 1, column 4: more follows the value"), (b'{"a":NaN}', None, f"it is not JSON: {NO_PLACE}"),
+            (b" ", None, "it is not JSON: it is empty"), (b"{} {}", None, "it is not JSON: line 1, column 4: more text follows the value"), (b'{"a":NaN}', None, f"it is not JSON: {NO_PLACE}"),
         ):
             found = line_of("f", 3, data)
             self.assertEqual((found.file, found.number, found.data, found.record, found.said), ("f", 3, data, record, said))
@@ -112,7 +112,7 @@ class Piles(InFolder):
         self.assertEqual([(game.name, game.roles, game.first, game.path) for game in games], [("g0", ("a",), ("a", "b"), str(rules / "g0.kif"))])
         self.assertEqual(refused, [
             f"{rules}/h0.kif: it has variables: `ggp-instantiate` makes ground rules from it", f"{rules}/h1.kif: it has no role", f"{rules}/h2.kif: bad",
-            f"{rules}/h3.kif: line 1, column 1: a `)` with no open list; a sentence before it may have a `)` too many",
+            f"{rules}/h3.kif: line 1, column 1: a `)` with no open list; an earlier sentence may have one `)` too many",
             f"{rules}/h4.kif: line 1, column 1: (role) is not a sentence: (role); write (role _)",
         ])
 

@@ -160,11 +160,11 @@ class Faults(unittest.TestCase):
         more = "More text follows the first record. Pass one record, without its call log, or use --lines if each line is a record."
         for text, *lines in (
             (b'{\n"\xff"', "The text is not JSON: line 2, byte 2 of it: it is not UTF-8."), (b'\xff', "The text is not JSON: line 1, byte 1 of it: it is not UTF-8."),
-            (b"\n\xff", "The text is not JSON: line 2, byte 1 of it: it is not UTF-8."), (b"{} x", "The text is not JSON: line 1, column 4: more follows the value."),
-            (b"{}\n{}", "The text is not JSON: line 2, column 1: more follows the value.", more), (b"{}\n0\topen m 0\topened\n", "The text is not JSON: line 2, column 1: more follows the value.", more),
+            (b"\n\xff", "The text is not JSON: line 2, byte 1 of it: it is not UTF-8."), (b"{} x", "The text is not JSON: line 1, column 4: more text follows the value."),
+            (b"{}\n{}", "The text is not JSON: line 2, column 1: more text follows the value.", more), (b"{}\n0\topen m 0\topened\n", "The text is not JSON: line 2, column 1: more text follows the value.", more),
             (b"[" * 99_999, none), (b"[]", none), (b'x{"cause":1', "The text is not JSON: line 1, column 1: a value is missing."),
             (b'{"cause":{"cause":1}', "The text is not JSON: line 1, column 21: `,` is missing.", "Another record begins at byte 10: the one before it was cut off, for example because a record was appended to an unfinished line."),
-            (b"1} ", "The text is not JSON: line 1, column 2: more follows the value."),
+            (b"1} ", "The text is not JSON: line 1, column 2: more text follows the value."),
         ):
             self.assertEqual(list(explanation("json", Game(countdown(3)), text)), lines, text)
 

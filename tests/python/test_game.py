@@ -33,7 +33,7 @@ CHANGES = [
     ]),
     ("(<= terminal", "(=> terminal", [
         "line 9, column 1: `=>` is not a GDL keyword, and the game does not use it; is `<=` meant?: (=> terminal over)",
-        "nothing gives `terminal`, so no match can finish",
+        "no sentence gives `terminal`, so no match can finish",
     ]),
     ("(true (step 3)", "(treu (step 3)", [
         "line 7, column 5: no condition uses the term (step 3): (next (step 3))",
@@ -42,11 +42,11 @@ CHANGES = [
     ("terminal over", "terminal ovre", ["line 9, column 14: `ovre` has no rule and no fact; is `over` meant?: ovre"]),
     ("terminal over", "terminal (over)", ["line 9, column 14: `(over)` has no rule and no fact, only `over`: (over)"]),
     ("legal bob", "legal bbo", [
-        "line 1, column 12: nothing gives the role bob a `legal`: (role bob)",
+        "line 1, column 12: no sentence gives the role bob a `legal`: (role bob)",
         "line 5, column 1: bbo is not a role: (legal bbo wait)",
     ]),
     ("goal ann", "goal anne", [
-        "line 1, column 1: nothing gives the role ann a `goal`: (role ann)",
+        "line 1, column 1: no sentence gives the role ann a `goal`: (role ann)",
         "line 10, column 5: anne is not a role: (goal anne 100)",
     ]),
     ("does ann", "does eve", ["line 6, column 37: eve is not a role: (does eve go)"]),
@@ -98,7 +98,7 @@ class Suspicious(unittest.TestCase):
 
     def test_ground_rules_say_more(self):
         ground = b"(role ann) (role bob) (legal ann x) (goal ann 1) terminal"
-        said = [f"line 1, column 31: nothing gives the role bob a `{name}`: (role ?r)" for name in ("legal", "goal")]
+        said = [f"line 1, column 31: no sentence gives the role bob a `{name}`: (role ?r)" for name in ("legal", "goal")]
         self.assertEqual(lines_of(OPEN.encode(), ground), said)
 
     def test_an_instance_of_what_is_no_role(self):
@@ -143,7 +143,7 @@ class Suspicious(unittest.TestCase):
             "no `init` and no `next` gives the term ": [
                 *(f"(init (c {number} {number}))" for number in numbers), *(f"(<= terminal (true (c ?x (f {number}))))" for number in numbers),
             ],
-            "nothing gives the role r0 a `goal`": [f"(role r{number}) (legal q{number} m)" for number in numbers],
+            "no sentence gives the role r0 a `goal`": [f"(role r{number}) (legal q{number} m)" for number in numbers],
             "`z99` has no rule and no fact": ["(<= terminal (or", *(f"z{number}" for number in numbers), "))"],
         }
         for words, text in cases.items():
@@ -214,7 +214,7 @@ class Game(InFolder):
         status, lines = self.look(SOUND + ";" * (1 << 20), "--matches", "0")
         self.assertEqual((status, lines[0].startswith("game.kif is accepted: ")), (0, True), lines)
         status, lines = self.look(SOUND + "(goal ann 200)")
-        words = "line 11, column 1: (goal ann 200) can be derived, and its goal is not a number from 0 to 100: (goal ann 200)"
+        words = "line 11, column 1: (goal ann 200) can be derived, but its goal is not a number from 0 to 100: (goal ann 200)"
         self.assertEqual((status, lines[1:]), (1, [words, "nothing else is suspicious"]), lines)
 
     def test_what_is_wrong_with_sentences_together(self):
@@ -225,7 +225,7 @@ class Game(InFolder):
             ]),
             ("(role a)\n(role b)\n(role A)", ["these name the same role: line 1, column 1: (role a); line 3, column 1: (role a)"]),
             ("(role a)\n(<= terminal p)\n(<= p (does a b))", ["line 3, column 1: terminal depends on does, through p: (<= p (does a b)); let `next` record what the moves did, and read that with `true`"]),
-            ("(role a)\n(goal a 101)", ["line 2, column 1: (goal a 101) can be derived, and its goal is not a number from 0 to 100: (goal a 101)"]),
+            ("(role a)\n(goal a 101)", ["line 2, column 1: (goal a 101) can be derived, but its goal is not a number from 0 to 100: (goal a 101)"]),
             ("(role a)\n(role a b)", ["line 2, column 1: (role a b) is not a sentence: (role a b); write (role _)"]),
             ("(role a)\n" + "".join(f"(<= p{number} p{(number + 1) % 10})\n" for number in range(10)), [
                 "these depend on each other: " + "; ".join(f"line {at + 2}, column 1: (<= p{at} p{at + 1})" for at in range(8)) + "; and 2 more"
@@ -255,14 +255,14 @@ class Game(InFolder):
         goals = "(<= (goal ann ?x) (true (won ?x)))\n(goal bob 5) (goal (o 1) 5)"
         rule, fact = "sentence 0, line 1: (<= (goal ann ?x) (true (won ?x)))", "sentence 1, line 2: (goal bob 5)"
         for role, state, words in (
-            ("ann", [], f"nothing gives ann a goal there; the sentences about goals are {rule} and {fact} and sentence 2, line 2: (goal (o 1) 5)"),
+            ("ann", [], f"no sentence gives ann a goal there; the sentences about goals are {rule} and {fact} and sentence 2, line 2: (goal (o 1) 5)"),
             ("ann", ["(won 150)"], f"ann has the goal 150 (not a number from 0 to 100), by {rule}"), ("bob", ["(won 1)"], f"bob has the goal 5, by {fact}"),
             ("ann", ["(won 9)", "(won (a))", "(won 7)", "(won 8)"], f"ann has 4 goals there: (a) (not a number from 0 to 100), by {rule}; 7, by {rule}; 8, by {rule}"),
             ("(o 1)", [], "(o 1) has the goal 5, by sentence 2, line 2: (goal (o 1) 5)"),
         ):
             self.assertEqual(goals_said(goals, role, state), words)
         self.assertEqual(goals_said("(role", "ann", []), "")
-        self.assertEqual(goals_said("(role ann)", "ann", []), "nothing gives ann a goal there; no sentence is about goals")
+        self.assertEqual(goals_said("(role ann)", "ann", []), "no sentence gives ann a goal there; no sentence is about goals")
 
     def test_a_game_that_does_not_end(self):
         status, lines = self.look(ENDLESS, "--matches", "1")

@@ -48,7 +48,7 @@ class Held(unittest.TestCase):
         with mock.patch.object(command, "read_record", fail):
             status, words = Holding(ONE_TURN).held(RECORD)
         self.assertEqual(status, NOT_FOLLOWED)
-        self.assertRegex(words, r"^not followed: a bug of ggp-hold-against, please report it: KeyError in fail, line \d+: 'x'$")
+        self.assertRegex(words, r"^not followed: a bug in ggp-hold-against, please report it: KeyError in fail, line \d+: 'x'$")
         with mock.patch.object(command, "read_record", side_effect=MemoryError):
             self.assertEqual(Holding(ONE_TURN).held(RECORD), (NOT_FOLLOWED, "not followed: out of memory"))
 

@@ -97,7 +97,7 @@ class Seats(unittest.TestCase):
         self.assertIsNone(self.seat.move("(mark 2 2)", self.seat.asked))
         asked.join(SECONDS)
         self.assertEqual(self.answers, ["(mark 2 2)"])
-        self.assertEqual(self.seat.move("(mark 2 2)", self.seat.asked), "no move is awaited")
+        self.assertEqual(self.seat.move("(mark 2 2)", self.seat.asked), "no move is expected now")
 
     def test_a_single_legal_move_is_made_without_asking(self):
         self.begin("oplayer")
@@ -131,7 +131,7 @@ class Seats(unittest.TestCase):
         self.begin()
         self.seat.play_clock = 0
         self.seat.answer("(PLAY M NIL)")
-        self.assertEqual(self.seat.move("(mark 2 2)", self.seat.asked), "no move is awaited")
+        self.assertEqual(self.seat.move("(mark 2 2)", self.seat.asked), "no move is expected now")
         self.assertEqual(self.seat.view["phase"], "late")
 
     def test_a_click_on_the_turn_before_makes_no_move(self):

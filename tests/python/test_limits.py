@@ -30,7 +30,7 @@ class Goals(unittest.TestCase):
     def test_a_rule_that_asks_for_a_high_goal_is_refused(self):
         for body in ("(goal r 101)", "(not (goal r 101))", "p (goal r 101)"):
             why = raised(Refused, without_high_goals, rules(f"(goal r 1) (<= terminal {body})"))
-            self.assertEqual(str(why), "terminal uses (goal r 101), and a goal is a number from 0 to 100")
+            self.assertEqual(str(why), "terminal uses (goal r 101), but a goal is a number from 0 to 100")
 
 
 class Faults(unittest.TestCase):
@@ -47,7 +47,7 @@ class Faults(unittest.TestCase):
 
     def test_goals_that_are_none(self):
         for goal in ("101", "00", "01", "1a", "x", "(f 1)", "1000"):
-            said = f"line 1, column 10: (goal r {goal}) can be derived, and its goal is not a number from 0 to 100: "
+            said = f"line 1, column 10: (goal r {goal}) can be derived, but its goal is not a number from 0 to 100: "
             self.assertEqual(self.refused(f"(role r) (goal r {goal})"), f"{said}(goal r {goal})")
             self.assertEqual(self.refused(f"(role r) (<= p (not (goal r {goal})))"), f"{said}(<= p (not (goal r {goal})))")
 

@@ -125,7 +125,7 @@ class Made(unittest.TestCase):
 
     def test_refusals_have_the_sentence(self):
         for text, words in (
-            ("(role r)\n(<= (goal r ?x) (n ?x)) (n big)", "line 2, column 1: (goal r big) can be derived, and its goal is not a number from 0 to 100: (<= (goal r ?x) (n ?x))"),
+            ("(role r)\n(<= (goal r ?x) (n ?x)) (n big)", "line 2, column 1: (goal r big) can be derived, but its goal is not a number from 0 to 100: (<= (goal r ?x) (n ?x))"),
             ("(role r) (init a)\n(<= p (not q) (true a))\n(<= q o) (<= o p) (<= terminal p)", "line 2, column 1: a cycle: p depends on itself through the negation of q, with o: (<= p (not q) (true a))"),
         ):
             self.assertEqual(told(text, made(text)[0]).partition(";")[0], words)

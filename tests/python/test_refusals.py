@@ -15,7 +15,7 @@ from ggp_tools.records.collection import game_of
 MOVES = "let `next` record what the moves did, and read that with `true`"
 REFUSED = [
     ("(role a)\n(init (p", "line 2, column 7: a list that is not closed; add a `)`"),
-    ("(role a)\n (init p))", "line 2, column 10: a `)` with no open list; a sentence before it may have a `)` too many"),
+    ("(role a)\n (init p))", "line 2, column 10: a `)` with no open list; an earlier sentence may have one `)` too many"),
     ("\xef\xbb\xbf(role a)", "line 1, column 1: a byte that is not a character of KIF: '\xef'; the file begins with a byte order mark: save it without one"),
     ("\x1f\x8b\x08", "line 1, column 1: a byte that is not a character of KIF: '\\x1f'; the file is compressed with gzip: decompress it"),
     ("(role a)\n(<= (true p) (true q))", "line 2, column 1: (true p) can't be a head: (<= (true p) (true q)); `next` and `init` say what is true in a state"),

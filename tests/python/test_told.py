@@ -132,7 +132,7 @@ class Told(InFolder):
     def look_at_archive(self):
         status, out, said = run(self.folder, "check", "cup.tar.gz")
         self.assertEqual((status, said), (0, ""), out)
-        self.assertIn("; 4 matches are those of descriptions with variables; ", out)
+        self.assertIn("; 4 matches agree with descriptions that have variables; ", out)
         files = files_of(self.folder / "cup.tar.gz")
         logs = {match: (self.folder / f"logs/{match}.jsonl").read_bytes() for match, *_ in self.schedule}
         held = [match for match, log in logs.items() if log.endswith(line_of(Other("held", {"match": match, "reason": None})))]

@@ -17,7 +17,7 @@ Place = tuple[str, int]
 
 
 def address_of(resolved: tuple) -> str:
-    """Returns an address from `getaddrinfo` in one form: an IPv4 address in IPv6 notation becomes IPv4, and the unspecified address becomes the
+    """Returns an address from `getaddrinfo` in canonical form: an IPv4 address in IPv6 notation becomes IPv4, and the unspecified address becomes the
     loopback address."""
     address = ipaddress.ip_address(resolved[0].partition("%")[0])
     address = getattr(address, "ipv4_mapped", None) or address

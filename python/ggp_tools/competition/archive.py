@@ -217,7 +217,8 @@ def version_of(folder: pathlib.Path) -> str:
 
 
 def check_archive(path: pathlib.Path, referee: Referee) -> tuple[list[str], str]:
-    """Returns the errors in an archive, as lines of printable ASCII of limited length, and if there are none, a sentence about what is right."""
+    """Returns the errors in an archive, as lines of printable ASCII of limited length. If there are none, also returns a sentence that says what was
+    checked."""
     try:
         with tempfile.TemporaryDirectory() as empty:
             try:
@@ -245,8 +246,7 @@ def compared_side_by_side(file: pathlib.Path, records: Sequence[bytes]) -> list[
 
 
 def compared_matches(plan: Plan, results: list[Result], folder: pathlib.Path) -> tuple[str, list[str]]:
-    """Compares the matches of each game whose description has variables with this description. Returns a remark about the comparison, and the
-    differences."""
+    """Compares the matches of each game with its description, if this has variables. Returns a remark about the comparison, and the differences."""
     count, not_followed, faults = 0, [], []
     for game in plan.competition.games:
         file, matches = folder / f"games/{game.name}.kif", [result.match for result in results if result.match.game == game.name]
@@ -258,7 +258,7 @@ def compared_matches(plan: Plan, results: list[Result], folder: pathlib.Path) ->
                 faults.append(f"{match.id}: compared with games/{game.name}.kif it {line}")
             elif not line.startswith(IS_SAME):
                 not_followed.append(f"{match.id} {line}")
-    remark = f"; {counted(count, 'match', 'is that', 'are those')} of descriptions with variables" if count or not_followed else ""
+    remark = f"; {counted(count, 'match', 'agrees', 'agree')} with descriptions that have variables" if count or not_followed else ""
     return f"{remark}, and {len(not_followed)} could not be followed: {', '.join(not_followed)}" if not_followed else remark, faults
 
 
@@ -269,7 +269,8 @@ def refuse(faults: Iterable[str]) -> None:
 
 
 def what_is_right(path: pathlib.Path, empty: pathlib.Path, referee: Referee) -> str:
-    """Unpacks an archive into an empty directory, checks it, and returns what is right. Raises `Refused` with everything that is wrong."""
+    """Unpacks an archive into an empty directory, checks it, and returns a sentence that says what was checked. Raises `Refused` with everything that
+    is wrong."""
     folder = unpack(path, empty)
     made_by = version_of(folder)
     refuse(faults_of_sums(folder))

@@ -18,13 +18,13 @@ if TYPE_CHECKING:
     from ggp_tools.competition.results import Result
     from ggp_tools.competition.schedule import Match
 
-# The first call, and those for a role: which message it is owed, and its answer.
+# The first call of a log, and the calls for a role: the one that asks for its next message, and the one with its answer.
 OPENING = re.compile(rb"0\t(?:open|(strict)) ([^ \t]+) \d+ (\d{1,5}) (\d{1,5})([^\t]*)\topened")
 NEXT = re.compile(rb"(\d+)\tnext ([^ \t]+) (\d+)\t(?:owe (\d+) ([^ \t]+) ?([^\t]*)|(hold \d+|over))")
 ANSWER = re.compile(rb"(\d+)\t(submit|miss) ([^ \t]+) (\d+) (\d+)(?: ([^\t]*))?\ttaken")
 # A role that waits in a round asks every two seconds, more often at first, and up to twice more for each role that wakes it. So the number of its
 # `hold` replies is less than the seconds of the clock, plus twice the number of roles, plus this number, which allows for ten minutes in which the
-# computer holds the referee up.
+# computer delays the referee.
 MOST_HOLDS = 300
 # The history of the referee's desk has at most this many calls.
 MOST_CALLS = 1_000_000
@@ -195,7 +195,8 @@ def fault_of_run(match: "Match", roles: Sequence[str], run: Sequence[Event], acc
 
 
 def fault_of_log(plan: "Plan", match: "Match", is_published: bool) -> str | None:
-    """Returns what is wrong with the match log of a match, compared with its call log. A published log may only have lines that are published."""
+    """Returns what is wrong with the match log of a match, compared with its call log. A published log may only have the lines that `publish`
+    writes."""
     log = plan.folder.whole_log(match.id)
     run = last_run(io.BytesIO(log), match.id)
     if is_published and (fault := unpublished(log, run)):

@@ -101,7 +101,7 @@ def is_address(text: str) -> bool:
 
 
 class Section:
-    """A table that is read key by key. Its mistakes are kept with their lines and keys."""
+    """A table that is read key by key. Its mistakes are collected with their lines and keys."""
 
     def __init__(self, table: dict, path: Path, lines: dict[Path, int], mistakes: list[Mistake]) -> None:
         self.table, self.path, self.lines, self.mistakes = table, path, lines, mistakes
@@ -396,7 +396,7 @@ class Competition:
 
 
 def refuse_twice(sections: list[Section], key: str) -> None:
-    """Refuses a value of the key that an earlier section has."""
+    """Refuses a value of the key if an earlier section has the same value."""
     known = {}
     for section in sections:
         if type(value := section.table.get(key)) is str and known.setdefault(value, section) is not section:

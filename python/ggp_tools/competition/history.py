@@ -60,7 +60,8 @@ def seeded(competition: Competition, path: Path) -> Competition:
 
 
 def earlier_files(folder: Folder, *new: int) -> list[Path]:
-    """Returns the earlier versions of competition.toml, the oldest first. Refuses too many or too large ones; a new one of this size counts too."""
+    """Returns the earlier versions of competition.toml, the oldest first. Refuses too many files, or too many bytes in total. `new` has the sizes of
+    versions that are about to be added."""
     found = [file for file in folder.earlier.iterdir() if not file.name.startswith(UNFINISHED)] if folder.earlier.is_dir() else []
     for file in found:
         if not EARLIER.fullmatch(file.name):

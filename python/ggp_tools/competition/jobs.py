@@ -1,4 +1,4 @@
-"""Jobs. A job runs a match on another computer, or a player on this computer or another one."""
+"""A job runs a match on another computer, or a player on this or another computer."""
 
 import asyncio
 import json

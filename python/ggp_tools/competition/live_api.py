@@ -1,5 +1,6 @@
-"""What `serve` sends to other programs: the matches as JSON, what changes, and numbers for Prometheus. About an open match, it says no more than the
-pages: what follows from finished rounds and, in the second half of a clock, which players have not answered. docs/SERVING.md has the keys."""
+"""The data that `serve` sends to other programs: the matches as JSON, events about changes, and numbers for Prometheus. About an open match, it says
+no more than the pages: what follows from finished rounds and, in the second half of a clock, which players have not answered. docs/SERVING.md has the
+keys."""
 
 import json
 import re

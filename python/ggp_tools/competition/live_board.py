@@ -104,7 +104,7 @@ class LiveBoard:
         return not self.is_finished(now) and any(at > now and self.is_finished(at) for at in self.answers)
 
     def is_known_further(self) -> bool:
-        """Returns whether the referee would say something new."""
+        """Returns whether the referee would report something new."""
         return not self.is_stuck and (not self.position.states or self.is_finished(self.position.round()))
 
     def is_due(self) -> bool:

@@ -53,7 +53,7 @@ def plan_stamp(folder: Folder) -> tuple:
 
 
 def without_new_rounds(plan: Plan, seconds: float) -> Plan:
-    """Returns a plan without the rounds whose pairings follow from record files that are younger than this."""
+    """Returns a plan without the rounds whose pairings follow from record files that are newer than this."""
     for number in [planned.number for planned in plan.rounds[1:]] if seconds else ():
         files = [plan.folder.record(match.id) for match in plan.matches if match.round == number - 1]
         if any(file.stat().st_mtime > time.time() - seconds for file in files if file.exists()):

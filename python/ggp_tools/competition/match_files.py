@@ -73,7 +73,7 @@ def record_bytes(folder: Folder, match: str, rules: bytes) -> bytes:
 
 
 def account_bytes(folder: Folder, match: str) -> bytes | None:
-    """Returns the call log of a match, or None if it is missing. If it is too long, this returns one byte too many."""
+    """Returns the call log of a match, or None if it is missing. If it is too long, this returns one byte more than the limit."""
     try:
         return file_bytes(folder.account(match), LONGEST_ACCOUNT + 1)
     except FileNotFoundError:

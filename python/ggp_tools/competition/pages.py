@@ -177,7 +177,7 @@ class Site:
         return html_of("competition", "way_of_match", match=result.match, **texts)
 
     def named(self, game: str) -> Named:
-        """Returns how the boards of a game are drawn. Rules that are too long are not read for that."""
+        """Returns how the boards of a game are drawn. Rules that are too long are not read for this."""
         rules = self.plan.rules[game].text
         return named_in(rules if len(rules) <= MOST_RULES else b"", self.games[game].board == BOARDS[1])
 

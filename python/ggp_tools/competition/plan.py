@@ -83,7 +83,7 @@ def read_file(path: Path, most: int = -1) -> bytes:
 
 
 def read_toml_file(path: Path) -> bytes:
-    """Returns the bytes of a competition.toml, or one byte too many if the file is too long."""
+    """Returns the bytes of a competition.toml, or one byte more than the limit if the file is too long."""
     return read_file(path, MOST_OF_COMPETITION + 1)
 
 

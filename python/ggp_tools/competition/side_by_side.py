@@ -1,4 +1,4 @@
-"""Calls a function for many matches in several processes."""
+"""Calls a function for many matches, in several processes."""
 
 import concurrent.futures.process
 import itertools

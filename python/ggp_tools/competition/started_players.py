@@ -1,4 +1,4 @@
-"""Players that the competition starts and ends, on this computer or by launchers, each with a port, limits and a log."""
+"""Players that the competition starts and ends, on this computer or through launchers. Each has a port, limits and a log."""
 
 import asyncio
 import contextlib

@@ -24,7 +24,7 @@ def goals_said(text: str, role: str, terms: Sequence[str]) -> str:
     if goals:
         return f"{quoted(role)} has the goal {goals[0]}"
     numbers = list(game.by_sentence(GOAL))
-    return f"nothing gives {quoted(role)} a goal there; {f'the sentences about goals are {named(game, numbers)}' if numbers else 'no sentence is about goals'}"
+    return f"no sentence gives {quoted(role)} a goal there; {f'the sentences about goals are {named(game, numbers)}' if numbers else 'no sentence is about goals'}"
 
 
 def past(value: object) -> str:

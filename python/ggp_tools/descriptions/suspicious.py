@@ -1,5 +1,5 @@
-"""Finds suspicious sentences in a description that the referee accepts. A sentence that may be correct is not reported. If its instances are unknown
-because it has variables, it counts as correct."""
+"""Finds sentences in a description that the referee accepts but that are suspicious. A sentence that may be correct is not reported. If its instances
+are unknown because it has variables, it counts as correct."""
 
 import difflib
 import itertools
@@ -380,9 +380,9 @@ class Search:
             for name in ("legal", "goal"):
                 if not self.known.may_give((name, atom[1], "?it")):
                     part = next((self.parts[head][0] for head in self.heads.like(atom)), None)
-                    yield Finding(part, f"nothing gives the role {quoted(atom[1], MOST_SHOWN)} a `{name}`", ("lacks", name, atom))
+                    yield Finding(part, f"no sentence gives the role {quoted(atom[1], MOST_SHOWN)} a `{name}`", ("lacks", name, atom))
         if not self.known.may_give("terminal"):
-            yield Finding(None, "nothing gives `terminal`, so no match can finish", ("terminal",))
+            yield Finding(None, "no sentence gives `terminal`, so no match can finish", ("terminal",))
 
 
 class Suspicions(NamedTuple):

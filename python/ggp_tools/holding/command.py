@@ -63,7 +63,7 @@ class Holding:
             return NOT_FOLLOWED, "not followed: out of memory"
         except Exception as why:
             # A bug of this command says nothing about the game.
-            return NOT_FOLLOWED, f"not followed: a bug of ggp-hold-against, please report it: {type(why).__name__} in {place_of(why)}: {why}"
+            return NOT_FOLLOWED, f"not followed: a bug in ggp-hold-against, please report it: {type(why).__name__} in {place_of(why)}: {why}"
         self.following = following
         return SAME, f"the same: {counted(turns, 'turn')}"
 

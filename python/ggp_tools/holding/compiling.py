@@ -386,7 +386,7 @@ class Derived:
         lines.put(place, f"W.add({self.number}, {self.row(bound)})")
 
 
-# What to do when all conditions of a body hold.
+# What happens when all conditions of a body hold.
 Finish = Truth | Answer | Derived
 
 

@@ -43,7 +43,7 @@ def canonical_term(text: str) -> Term:
 
 
 class Following:
-    """The game, with caches of terms and their texts. For each role and move, `seen` has the first sentence that was seen to derive the move."""
+    """The game, with caches of terms and their texts. For each role and move, `seen` has the first sentence that derived the move so far."""
 
     def __init__(self, game: Game) -> None:
         self.game, self.seen, self.in_order = game, {}, list(game.roles)
@@ -133,7 +133,7 @@ class Following:
         raise NotFollowed(f"no head of a sentence fits the legal move {quoted(move)}")
 
     def greatest_place(self, position: Position, role: str, move: Term) -> tuple[int, tuple]:
-        """Returns the latest possible place of a move: that of the first sentence that was seen to derive it."""
+        """Returns the latest possible place of a move: that of the first sentence that derived it so far."""
         numbers = self.game.sources(LEGAL, (role, move), position.state)
         first = min([*numbers, self.seen.get((role, move), numbers[0])])
         self.seen[role, move] = first
@@ -148,7 +148,7 @@ class Following:
         is_at_end = record["phase"] in COMPLETED or kind == "nogoal"
         is_over = self.game.is_over(position)
         if is_at_end and not is_over:
-            raise Differs("the match ends by the rules in the record, but not in the description: nothing gives `terminal`")
+            raise Differs("the match ends by the rules in the record, but not in the description: no sentence gives `terminal`")
         if not is_at_end and is_over:
             raise Differs(f"the match goes on in the record, but has ended in the description: {self.cited(TERMINAL, (), state)} `terminal`")
         if kind == "nogoal":

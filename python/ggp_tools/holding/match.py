@@ -51,7 +51,7 @@ class Match:
         return [self.game.goal(self.position, role) for role in self.game.roles]
 
     def turn(self, judged: list[tuple[Term, str]]) -> None:
-        """Adds a turn: each role's move, and the error that it replaces, if any."""
+        """Adds a turn: each role's move, and the error if the move replaces an answer."""
         self.moves.append([move for move, _ in judged])
         self.errors.append([error for _, error in judged])
         self.position.move(list(zip(self.game.roles, self.moves[-1])))

@@ -132,7 +132,7 @@ def with_relations(rules: list[Rule]) -> list[Rule]:
 
 
 def alone(condition: Condition) -> Condition:
-    """Replaces each atomic sentence of a condition by a relation without arguments."""
+    """Replaces each atomic sentence of a condition with a relation without arguments."""
     if isinstance(condition, Either):
         return Either(tuple(tuple(map(alone, way)) for way in condition.ways))
     if isinstance(condition, Same) or condition.relation in (TRUE, DOES) or not condition.arguments:

@@ -1,4 +1,4 @@
-"""Computes what the page shows of a game: the state, and the places that a move names."""
+"""Computes the parts of a game that the page shows: the state, and the places that a move names."""
 
 from ggp_tools.holding.game import Game
 from ggp_tools.holding.match import texts_of

@@ -225,7 +225,7 @@ class Seat:
                 self.show("sent", [], note)
             self.legal = []
             if self.sent is None:
-                self.show("late", [], "Your time is over: the referee plays your first legal move.")
+                self.show("late", [], "Your time is up: the referee plays your first legal move.")
                 # If the connection closed before the clock ends, the referee would report a connection error.
                 self.changed.wait_for(lambda: self.asked != asked, 2 * SPARE)
             return self.sent
@@ -284,7 +284,7 @@ class Seat:
         """Takes the person's move, chosen at message number `asked`. Returns an error, or None."""
         with self.changed:
             if not self.legal or self.sent is not None:
-                return "no move is awaited"
+                return "no move is expected now"
             if asked != self.asked:
                 return "that move was chosen for an earlier turn"
             if text not in self.legal:

@@ -31,7 +31,7 @@ def without_high_goals(rules: list[Rule]) -> tuple[list[Rule], int]:
     for rule in rules:
         for literal in rule.body:
             if is_high(literal.atom):
-                raise Refused(f"{quoted(rule.head)} uses {quoted(literal.atom)}, and a goal is a number from 0 to 100", rule.sentence)
+                raise Refused(f"{quoted(rule.head)} uses {quoted(literal.atom)}, but a goal is a number from 0 to 100", rule.sentence)
     return [rule for rule in rules if rule.head not in high], len(high)
 
 
@@ -44,7 +44,7 @@ def refuse_faults(rules: list[Rule]) -> None:
     for rule in rules:
         for atom in rule.atoms():
             if relation(atom)[0] == "goal" and not (isinstance(atom[2], str) and GOAL.fullmatch(atom[2])):
-                raise Refused(f"{quoted(atom)} can be derived, and its goal is not a number from 0 to 100", rule.sentence)
+                raise Refused(f"{quoted(atom)} can be derived, but its goal is not a number from 0 to 100", rule.sentence)
         if rule.head == ("role", "random"):
             raise Refused(f"the role `random` {SECRET}", rule.sentence)
         if relation(rule.head)[0] == "role" and rule.body:

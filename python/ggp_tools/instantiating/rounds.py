@@ -123,7 +123,7 @@ def refuse_denial(circle: list[Expression], rules_for: RulesFor) -> None:
                     words = f"a cycle: {quoted(atom)} depends on itself through the negation of {quoted(literal.atom)}"
                     if others := [quoted(other) for other in circle if other not in (atom, literal.atom)]:
                         words += f", with {', '.join(others[:MOST_NAMED])}" + (f" and {len(others) - MOST_NAMED:,} more" if len(others) > MOST_NAMED else "")
-                    raise Refused(words, rule.sentence, "ask for one of these in the state before it, by `true`")
+                    raise Refused(words, rule.sentence, "use `true` to ask for one of these in the previous state")
 
 
 def alive(circle: list[Expression], rules_for: RulesFor, last: int) -> list[set[Expression]]:

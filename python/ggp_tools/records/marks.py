@@ -68,7 +68,7 @@ def piece_of(label: str, has_codes: bool) -> tuple[str, str] | None:
 
 
 def has_piece_codes(labels: set[str]) -> bool:
-    """Returns whether labels such as `wk` and `bp` are pieces: there are more than two, of both sides."""
+    """Returns whether labels such as `wk` and `bp` are pieces: there must be more than two, and both sides must have some."""
     codes = [match for match in map(CODE.fullmatch, labels) if match]
     return len(codes) > 2 and len({match[1] for match in codes}) == 2
 

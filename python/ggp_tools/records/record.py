@@ -35,7 +35,7 @@ BEGIN = b'{"cause":'
 CUT_WORD = re.compile(r"-|t(ru?)?|f(a(ls?)?)?|n(ul?)?")
 # The messages of Python's JSON parser, and our messages for them.
 JSON_WORDS = {
-    "Expecting value": "a value is missing", "Extra data": "more follows the value", "Unterminated string starting at": "a text has no end",
+    "Expecting value": "a value is missing", "Extra data": "more text follows the value", "Unterminated string starting at": "a text has no end",
     "Expecting property name enclosed in double quotes": "a key is missing", "Expecting ':' delimiter": "`:` is missing",
     "Expecting ',' delimiter": "`,` is missing", "Invalid control character at": "a control character is in a text",
 }

@@ -44,9 +44,9 @@ MOST_TERMS, MOST_CELLS, MOST_BOARDS = 65_536, 16_384, 64
 PHASES = {
     "starting": "It is starting: not every role has its START mark.",
     "playing": "It is being played.",
-    "stopping": "It has ended by the rules, and not every role has answered STOP.",
+    "stopping": "It has ended by the rules, but not every role has answered STOP.",
     "finished": "It ended by the rules.",
-    "aborting": "It is given up, and not every role has answered ABORT",
+    "aborting": "It is being given up, but not every role has answered ABORT",
     "aborted": "It was given up",
 }
 CAUSES = {
