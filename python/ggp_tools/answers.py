@@ -35,7 +35,7 @@ def no_expression(answer: str) -> str:
 
 
 def listed(moves: list[str]) -> str:
-    """Returns the number of moves, and the moves themselves up to a limit of bytes."""
+    """Describes the legal moves of a role: their number, and the moves themselves up to a limit of bytes."""
     bytes_left, shown = MOST_BYTES, []
     for move in moves:
         bytes_left -= len(move) + 2
@@ -43,7 +43,8 @@ def listed(moves: list[str]) -> str:
             break
         shown.append(move)
     omitted = len(moves) - len(shown)
-    return f"{len(moves)}: {', '.join(shown)}" + (f", and {omitted} more" if omitted else "")
+    head = "the only legal move was" if len(moves) == 1 else f"the {len(moves)} legal moves were"
+    return f"{head} {', '.join(shown)}" + (f", and {omitted} more" if omitted else "")
 
 
 @functools.lru_cache(MOST_GAMES)
@@ -102,4 +103,4 @@ class Whys:
             return ""
         self.left -= 1
         moves = self.illegal.moves(role, turn, error)
-        return f", of which there were {moves}" if moves else ""
+        return f"; {moves}" if moves else ""

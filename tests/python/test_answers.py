@@ -34,12 +34,12 @@ class Answers(unittest.TestCase):
                 self.assertEqual(no_expression(answer), words)
 
     def test_moves_are_listed_as_far_as_there_is_room(self):
-        self.assertEqual(listed([]), "0: ")
-        self.assertEqual(listed(["noop"]), "1: noop")
-        self.assertEqual(listed(["a", "b"]), "2: a, b")
-        self.assertEqual(listed(["x" * 500, "b"]), f"2: {'x' * 500}, and 1 more")
-        self.assertEqual(listed(["x" * 198] * 5), f"5: {', '.join(['x' * 198] * 2)}, and 3 more")
-        self.assertEqual(listed(["x" * 198, "x" * 199]), f"2: {'x' * 198}, and 1 more")
+        self.assertEqual(listed([]), "the 0 legal moves were ")
+        self.assertEqual(listed(["noop"]), "the only legal move was noop")
+        self.assertEqual(listed(["a", "b"]), "the 2 legal moves were a, b")
+        self.assertEqual(listed(["x" * 500, "b"]), f"the 2 legal moves were {'x' * 500}, and 1 more")
+        self.assertEqual(listed(["x" * 198] * 5), f"the 5 legal moves were {', '.join(['x' * 198] * 2)}, and 3 more")
+        self.assertEqual(listed(["x" * 198, "x" * 199]), f"the 2 legal moves were {'x' * 198}, and 1 more")
 
     def test_what_is_legal_in_the_place_of_a_move(self):
         illegal = Illegal(STATES, ["red", "blue"], game)
@@ -54,7 +54,7 @@ class Answers(unittest.TestCase):
         self.assertEqual(whys.more(1, 0, "IL ?"), ": a second expression begins at column 3")
         self.assertEqual([whys.more(0, 0, error) for error in ("IL ?", "TO")], [""] * 2)
         found = [whys.more(0, 0, "IL x") for _ in range(21)]
-        self.assertEqual(found, [", of which there were 2: (take 1), (take 2)"] * 20 + [""])
+        self.assertEqual(found, ["; the 2 legal moves were (take 1), (take 2)"] * 20 + [""])
         self.assertEqual(Whys(RECORD, None, {}).more(0, 0, "IL x"), "")
 
     def test_a_page_has_them_as_titles(self):
@@ -62,6 +62,6 @@ class Answers(unittest.TestCase):
         record |= {"phase": "playing", "goalValues": [], "errors": [["IL <b>", "IL ?"]], "moves": [["(take 1)", "noop"]], "states": STATES}
         hostile = (GAMES / "countdown.kif").read_bytes().replace(b"take", b'"><i>')
         titles = [cell["title"] for cell in parsed(page_of(record, lambda: game_of(hostile), {(1, 0): "(<i>"})).select("td.substituted")]
-        told = ['the answer was not a legal move, of which there were 2: ("><i> 1), ("><i> 2)', "the answer was not one expression: a list that is not closed at column 1"]
+        told = ['the answer was not a legal move; the 2 legal moves were ("><i> 1), ("><i> 2)', "the answer was not one expression: a list that is not closed at column 1"]
         self.assertEqual(titles, told)
         self.assertEqual([cell["title"] for cell in parsed(page_of(record)).select("td.substituted")], [title.partition(",")[0].partition(":")[0] for title in told])

@@ -45,9 +45,9 @@ class Why(InFolder):
         self.assertRegex(said, rf"(?m)^{MOMENT} info cup-001 p1: available, \d\.\d s$")
         self.assertRegex(said, rf"(?m)^{MOMENT} begin cup-001 countdown p0 p1$")
         self.assertRegex(said, rf"(?m)^{MOMENT} START was answered `ready` after \d+ ms\. Message 1: \(START cup-001 blue ")
-        wrong = r"IL \(no such move\): no legal move of its role in that state, which has \d: [^;]+; its first legal move was played: "
+        wrong = r"IL \(no such move\): not a legal move of its role in that state, which has \d: [^;]+; its first legal move was played: "
         first, second = (re.escape(turn[1]) for turn in record["moves"][:2])
-        self.assertIn(f"in that state, which has 1: {record['moves'][0][1]}; its first", said)
+        self.assertIn(f"in that state; the only legal move was {record['moves'][0][1]}; its first", said)
         self.assertRegex(said, rf"(?m)^{MOMENT} turn 1: PLAY was answered `\(no such move\)` after \d+ ms; {wrong}{first}\. Message 2: \(PLAY cup-001 NIL\)$")
         self.assertRegex(said, rf"(?m)^{MOMENT} turn 2: PLAY .*; {wrong}{second}, turn 2 in a row without a move of its own, so it is retired\. ")
         self.assertNotIn("p0: available", said)
@@ -165,9 +165,9 @@ class Why(InFolder):
     def test_where_a_move_would_be_legal(self):
         explained = self.explained({"states": [["(heap 2)", "(turn red)"], ["(heap 1)", "(turn blue)"]]})
         self.assertEqual([explained.roles, explained.illegal.legal(0, 0), explained.illegal.legal(1, 0)], [("red", "blue"), ["(take 1)", "(take 2)"], ["noop"]])
-        self.assertEqual(explained.illegal_text(0, 0, "IL noop", "noop"), ", which has 2: (take 1), (take 2); it is legal for blue")
-        self.assertEqual(explained.illegal_text(0, 1, "IL (take 2)", "(take 2)"), ", which has 1: noop; it was legal in the turn before")
-        self.assertEqual(explained.illegal_text(0, 0, "IL (take 3)", "(take 3)"), ", which has 2: (take 1), (take 2)")
+        self.assertEqual(explained.illegal_text(0, 0, "IL noop", "noop"), "; the 2 legal moves were (take 1), (take 2); it is legal for blue")
+        self.assertEqual(explained.illegal_text(0, 1, "IL (take 2)", "(take 2)"), "; the only legal move was noop; it was legal in the turn before")
+        self.assertEqual(explained.illegal_text(0, 0, "IL (take 3)", "(take 3)"), "; the 2 legal moves were (take 1), (take 2)")
         self.assertEqual([explained.illegal_text(0, 0, error, "") for error in ("TO", "CE", "RT")], ["", "", ""])
         for states in ([], [["(heap 2"]], [[]]):
             self.assertEqual(self.explained({"states": states}).illegal_text(0, 0, "IL noop", "noop"), "")

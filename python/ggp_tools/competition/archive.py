@@ -190,7 +190,7 @@ def faults_of_files(plan: Plan, referee: Referee, results: list[Result]) -> Iter
 
 
 def faults_of_matches(plan: Plan, referee: Referee) -> tuple[list[Result], list[str]]:
-    """Returns the results, and what is wrong with records, call logs and match logs."""
+    """Returns the results, and the errors in records, call logs and match logs."""
     results, faults, misfits = check_records(plan, referee)
     checked = results | faults | misfits
     # GAPS.tsv is compared later.
@@ -269,8 +269,7 @@ def refuse(faults: Iterable[str]) -> None:
 
 
 def what_is_right(path: pathlib.Path, empty: pathlib.Path, referee: Referee) -> str:
-    """Unpacks an archive into an empty directory, checks it, and returns a sentence that says what was checked. Raises `Refused` with everything that
-    is wrong."""
+    """Unpacks an archive into an empty directory, checks it, and returns a sentence that says what was checked. Raises `Refused` with all errors."""
     folder = unpack(path, empty)
     made_by = version_of(folder)
     refuse(faults_of_sums(folder))

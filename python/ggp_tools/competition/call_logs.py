@@ -195,7 +195,7 @@ def fault_of_run(match: "Match", roles: Sequence[str], run: Sequence[Event], acc
 
 
 def fault_of_log(plan: "Plan", match: "Match", is_published: bool) -> str | None:
-    """Returns what is wrong with the match log of a match, compared with its call log. A published log may only have the lines that `publish`
+    """Returns the error in the match log of a match, compared with its call log, or None. A published log may only have the lines that `publish`
     writes."""
     log = plan.folder.whole_log(match.id)
     run = last_run(io.BytesIO(log), match.id)
@@ -205,6 +205,6 @@ def fault_of_log(plan: "Plan", match: "Match", is_published: bool) -> str | None
 
 
 def faults_of_logs(plan: "Plan", results: Sequence["Result"], is_published: bool) -> list[str]:
-    """Returns what is wrong with the match logs of matches that count."""
+    """Returns the errors in the match logs of matches that count."""
     faults = made_side_by_side(fault_of_log, [(plan, result.match, is_published) for result in results])
     return [f"{result.match.id}: {fault}" for result, fault in zip(results, faults) if fault]

@@ -195,8 +195,8 @@ def report_figures(reporter: Reporter, roles: Sequence[str], ended: list) -> Non
 
 
 def trial(rules: bytes, referee: Referee, name: str) -> tuple[str | None, str | None]:
-    """Plays random matches of a game before it is planned: if none of them ends, the description is most likely wrong. Returns what is wrong, and
-    a note if there is no verdict. Both are None if a match ends."""
+    """Plays random matches of a game before it is planned: if none of them ends, the description is most likely wrong. Returns the error, and a note
+    if there is no verdict. Both are None if a match ends."""
     reporter = Reporter()
     try:
         played = RandomMatches(rules, referee, name, reporter, TRIAL_SECONDS)

@@ -249,7 +249,7 @@ class LiveMatch:
         self.count_change()
 
     def count_change(self) -> None:
-        """Counts a change of what is shown. Restarts the clock if a round was finished."""
+        """Counts a change to the contents of the pages. Restarts the clock if a round was finished."""
         since = self.stage, self.turn(), self.is_ending(), self.is_over()
         if self.shown[:1] != (since,):
             self.since, self.began = self.now, clock()

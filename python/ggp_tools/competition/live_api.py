@@ -86,7 +86,7 @@ def snapshot(reader: Reader, table: object) -> Keys:
 
 
 def news(reader: Reader, old: Keys, new: Keys) -> Keys | None:
-    """Returns what has changed from one snapshot to the next."""
+    """Returns the changes from one snapshot to the next."""
     names = [name for name in old.keys() | new.keys() if old.get(name) is not new.get(name) and old.get(name) != new.get(name)]
     if len(names) > MOST_LISTED:
         return {"reload": True}

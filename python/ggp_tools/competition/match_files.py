@@ -34,7 +34,7 @@ LARGE = threading.Lock()
 
 
 class Check(NamedTuple):
-    """The check of a match's files: the result of the match, or why the match does not count. `fault` says what is wrong with the files, `misfit` how
+    """The check of a match's files: the result of the match, or why the match does not count. `fault` is an error in the files, and `misfit` says how
     valid files differ from the match."""
 
     match: Match
@@ -123,7 +123,7 @@ def unverified_result(folder: Folder, competition: Competition, rules: Mapping[s
 
 
 def referee_faults(plan: "Plan", referee: Referee, game: str, records: Sequence[bytes], accounts: Sequence[bytes]) -> list[str | None]:
-    """Returns for each record and its call log what the referee finds wrong with them, or None."""
+    """Returns, for each record and its call log, the error that the referee finds in them, or None."""
     rules, referee = plan.folder.rules_of(game), plan.judge(referee, game)
     verdicts = referee.verdicts(rules, records)
     lawful = [at for at, verdict in enumerate(verdicts) if verdict == "lawful"]

@@ -22,7 +22,7 @@ WON, DRAWN, LOST = "won", "drawn", "lost"
 FULL_GOAL = 100
 # The greatest length of a wrong value that is quoted.
 MOST_CITED = 200
-# A game stores what it has computed of a state, so only one thread at a time may use it.
+# A game caches its results for a state, so only one thread at a time may use it.
 GAMES = threading.Lock()
 
 
@@ -175,8 +175,8 @@ def result_of(record: dict, match: Match, has_forfeits: bool = False, lapses: tu
 
 
 def lapse_of(record: dict, data: bytes, rules: "Rules", role: int, most: int) -> Retirement | None:
-    """Returns why a role has lost a match by this many replaced moves, or None. A turn in which the role has only one legal move, by the ground
-    rules, does not count."""
+    """Returns why a role has lost a match because of this many replaced moves, or None. A turn does not count if, by the ground rules, the role has
+    only one legal move."""
     errors, lapses = [turn[role] for turn in record["errors"]], []
     if len(errors) - errors.count("") < most:
         return None

@@ -26,7 +26,7 @@ METHOD = (
 
 
 def forfeit_rule(competition: Competition) -> str:
-    """Explains how a player forfeits a match, and what counts then. The text is empty if no player can forfeit a match."""
+    """Explains how a player forfeits a match, and which goals count then. The text is empty if no player can forfeit a match."""
     most = competition.faults.replaced
     whys = ["it was retired"] * competition.forfeit + [f"{most:,} or more of its moves were replaced (forced moves do not count)"] * bool(most)
     counts = (

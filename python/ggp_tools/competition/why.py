@@ -146,7 +146,7 @@ class Explanation:
     def mark_text(self, mark: str, kind: str) -> str:
         """Explains an error of a record."""
         seconds = self.match.start if kind == START else self.match.play
-        return f"{mark}: {MARKS[mark].format(seconds=seconds)}" if mark in MARKS else f"{mark}: no legal move of its role in that state"
+        return f"{mark}: {MARKS[mark].format(seconds=seconds)}" if mark in MARKS else f"{mark}: not a legal move of its role in that state"
 
     @functools.cached_property
     def illegal(self) -> Illegal:
@@ -158,7 +158,7 @@ class Explanation:
             why = no_expression(answer)
             return f": {why}" if why else ""
         moves = self.illegal.moves(role, turn, error)
-        return f", which has {moves}" if moves else ""
+        return f"; {moves}" if moves else ""
 
     def turn_text(self, role: int, turn: int, answer: str) -> str:
         """Says what was played for a role in a turn, and why."""
@@ -205,7 +205,7 @@ class Explanation:
 
 
 def explanation(plan: Plan, match_id: str, player: str | None) -> Iterator[str]:
-    """Yields what happened in a match, to one player or to each."""
+    """Yields the events of a match, for one player or for all."""
     match = next((planned for planned in plan.matches if planned.id == match_id), None)
     if match is None:
         raise Refused(f"{match_id} is not a match of {plan.folder.schedule}")

@@ -23,9 +23,9 @@ from ggp_tools.streams import STANDARD_INPUT, Ended, opened, report, say, status
 COMMAND = "ggp-explain-record"
 ABOUT = (
     "Explains why a record is not lawful: what was expected, and what was found. If the record is lawful, it prints `lawful`. Otherwise it prints "
-    "the fault in the referee's words, and an explanation below, in which turns are counted from 1 and roles have their names. An interpreter that "
-    "shares no code with the referee computes what was expected. If the interpreter finds a different fault first, this is reported. With --lines "
-    "each line is a record. Those that are not lawful are printed, with the number of the line and an explanation. Lines of call logs are skipped."
+    "the error in the referee's words, and an explanation below it. Turns are counted from 1, and roles have their names. An interpreter that shares "
+    "no code with the referee computes what was expected. If the interpreter finds a different error first, this is reported. With --lines each line "
+    "is a record. Those that are not lawful are printed, with the number of the line and an explanation. Lines of call logs are skipped."
 )
 STATUS = "status 0: all records are lawful. 1: a record is not. 2: usage error. 3: there is no verdict."
 MOST_LISTED, MOST_OF_TEXT = 20, 400
