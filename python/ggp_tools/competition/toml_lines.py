@@ -66,7 +66,7 @@ def refuse_too_many(text: str) -> None:
 
 
 def fault_of(text: str, why: str) -> TomlFault:
-    """Returns the error that Python's parser reports with this message, with its line."""
+    """Returns the error for a message of Python's parser, with the line that the message names."""
     lines = text.split("\n")
     found = PLACE.search(why)
     line = min(int(found[1]), len(lines)) if found else len(lines)

@@ -200,7 +200,7 @@ class Seat:
         return asked
 
     def refuse(self, asked: int, note: str) -> None:
-        """Shows why a START was refused. If the START was a repeated one, its match is left."""
+        """Shows why a START was refused. If that START was repeated, its match is no longer played."""
         with self.changed:
             if self.asked == asked:
                 self.match = ""

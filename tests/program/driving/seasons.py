@@ -14,13 +14,13 @@ PATIENCE = 1800
 
 
 def schedule(pairs, clocks="600 600", name="m"):
-    """Returns the text of a schedule for these players, red and blue of each match, and the ids of its matches."""
+    """Returns the text of a schedule with a match of each of these pairs, the red player first, and the ids of the matches."""
     ids = [f"{name}{number}" for number in range(len(pairs))]
     return "".join(f"{match} {clocks} {red.address()} {blue.address()}\n" for match, (red, blue) in zip(ids, pairs)), ids
 
 
 def paired(players, matches):
-    """Returns the two players of each of this many matches: neighbours, in turn."""
+    """Returns the two players of each of this many matches. Neighbours in the list play each other, and the pairs take turns."""
     pairs = list(zip(players[::2], players[1::2]))
     return [pairs[number % len(pairs)] for number in range(matches)]
 
