@@ -137,7 +137,7 @@ class Rules(InArchive):
         self.assertIn("<h2>Bracket</h2>", (first / "pages/index.html").read_text())
         assert_spoilt(self, files_of(self.folder / "cup.tar.gz"), {
             "there is no final": (changed("cup/competition.toml", lambda text: text.replace(b"final = 2", b"")), "schedule.tsv does not agree with"),
-            "an anchor is another": (changed("cup/competition.toml", lambda text: text.replace(b"1500", b"1600")), "anchor was {'ann': 1500} and is {'ann': 1600}"),
+            "an anchor is another": (changed("cup/competition.toml", lambda text: text.replace(b"1500", b"1600")), "anchor was {'ann': 1500} and is now {'ann': 1600}"),
         })
         self.new_folder()
         text = toml([(player.name, player.place()) for player, in players], COUNTDOWN, 'kind = "knockout"', f'{HEAD}seeds = "{first}"\n')

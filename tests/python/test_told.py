@@ -33,7 +33,7 @@ SPOILINGS = {
     "what players are told is missing": (without("cup/rules/nim.players"), "rules/nim.players does not exist"),
     "players are told ground rules": (OTHERWISE, "rules/SHA256SUMS does not agree with"),
     "a description is another": (changed("cup/games/nim.kif", lambda text: text + b"; more\n"), "games/nim.kif is not the description that the rules of nim were made from"),
-    "the matches are of another game": (another_game, "by games/nim.kif it differs: "),
+    "the matches are of another game": (another_game, "compared with games/nim.kif it differs: "),
     "a page has other rules for players": (OTHER_PAGE, "pages/games/nim.html does not follow"),
 }
 
