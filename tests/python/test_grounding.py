@@ -89,8 +89,8 @@ class Dependence(unittest.TestCase):
         wrong = {("legal", "does"), ("goal", "does"), ("terminal", "does"), ("init", "does"), ("init", "true"), ("role", "does"), ("role", "true")}
         for (name, head), (other, body) in itertools.product(heads.items(), asked.items()):
             for text, by, sentence in (
-                (f"(<= {head} {body})", "", 0), (f"(<= x {body}) (<= {head} (not y)) (<= y x)", ", by y, x", 0),
-                (f"(<= {head} y) (<= x w) (<= x {body}) (<= y z (not x) z) (<= z y)", ", by y, x", 2),
+                (f"(<= {head} {body})", "", 0), (f"(<= x {body}) (<= {head} (not y)) (<= y x)", ", through y, x", 0),
+                (f"(<= {head} y) (<= x w) (<= x {body}) (<= y z (not x) z) (<= z y)", ", through y, x", 2),
             ):
                 # The grounder and the interpreter refuse the same.
                 for ask in (lambda: Relations(rules(text)).refuse_dependence(), lambda: Game(text)):
