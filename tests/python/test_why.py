@@ -45,7 +45,7 @@ class Why(InFolder):
         self.assertRegex(said, rf"(?m)^{MOMENT} info cup-001 p1: available, \d\.\d s$")
         self.assertRegex(said, rf"(?m)^{MOMENT} begin cup-001 countdown p0 p1$")
         self.assertRegex(said, rf"(?m)^{MOMENT} START was answered `ready` after \d+ ms\. Message 1: \(START cup-001 blue ")
-        wrong = r"IL \(no such move\): not a legal move of its role in that state, which has \d: [^;]+; its first legal move was played: "
+        wrong = r"IL \(no such move\): not a legal move of its role in that state; the (?:only legal move was|\d legal moves were) [^;]+; its first legal move was played: "
         first, second = (re.escape(turn[1]) for turn in record["moves"][:2])
         self.assertIn(f"in that state; the only legal move was {record['moves'][0][1]}; its first", said)
         self.assertRegex(said, rf"(?m)^{MOMENT} turn 1: PLAY was answered `\(no such move\)` after \d+ ms; {wrong}{first}\. Message 2: \(PLAY cup-001 NIL\)$")
