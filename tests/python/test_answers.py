@@ -43,11 +43,11 @@ class Answers(unittest.TestCase):
 
     def test_what_is_legal_in_the_place_of_a_move(self):
         illegal = Illegal(STATES, ["red", "blue"], game)
-        self.assertEqual(illegal.moves(0, 0, "IL noop"), "2: (take 1), (take 2); it is legal for blue")
-        self.assertEqual(illegal.moves(0, 1, "IL (take 2)"), "1: noop; it was legal in the turn before")
+        self.assertEqual(illegal.moves(0, 0, "IL noop"), "the 2 legal moves were (take 1), (take 2); it is legal for blue")
+        self.assertEqual(illegal.moves(0, 1, "IL (take 2)"), "the only legal move was noop; it was legal in the turn before")
         self.assertEqual([illegal.moves(0, 0, error) for error in ("IL ?", "TO", "CE", "RT")], [""] * 4)
         self.assertEqual(Illegal([["(heap"]], ["red"], game).moves(0, 0, "IL noop"), "")
-        self.assertEqual(Illegal([*STATES, ["(heap 1)", "(turn red)"]], ["red", "blue"], game).moves(0, 2, "IL (take 3)"), "1: (take 1)")
+        self.assertEqual(Illegal([*STATES, ["(heap 1)", "(turn red)"]], ["red", "blue"], game).moves(0, 2, "IL (take 3)"), "the only legal move was (take 1)")
 
     def test_a_page_tells_of_the_first_illegal_moves(self):
         whys = Whys(RECORD, game, {(1, 0): "a b"})
@@ -64,4 +64,4 @@ class Answers(unittest.TestCase):
         titles = [cell["title"] for cell in parsed(page_of(record, lambda: game_of(hostile), {(1, 0): "(<i>"})).select("td.substituted")]
         told = ['the answer was not a legal move; the 2 legal moves were ("><i> 1), ("><i> 2)', "the answer was not one expression: a list that is not closed at column 1"]
         self.assertEqual(titles, told)
-        self.assertEqual([cell["title"] for cell in parsed(page_of(record)).select("td.substituted")], [title.partition(",")[0].partition(":")[0] for title in told])
+        self.assertEqual([cell["title"] for cell in parsed(page_of(record)).select("td.substituted")], [title.partition(";")[0].partition(":")[0] for title in told])
