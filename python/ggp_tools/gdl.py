@@ -5,7 +5,7 @@ import math
 from collections.abc import Callable, Iterable, Iterator, Mapping, Sequence
 from typing import NamedTuple
 
-from ggp_tools.kif import DIGITS, Expression, Refused, Relation, atoms, fresh, head_of, quoted, relation, starts, variables
+from ggp_tools.kif import DIGITS, Expression, Refused, Relation, applied, atoms, fresh, head_of, quoted, relation, starts, variables
 from ggp_tools.printable import shown
 
 # A sentence may expand into at most MOST_WAYS rules, one for each way to satisfy its `or`s. Above FEW_WAYS each `or` becomes an auxiliary
@@ -163,7 +163,7 @@ def rules_of(number: int, sentence: Expression, names: Iterator[str]) -> list[Ru
             bound = dict.fromkeys(name for way in alternatives for literal in way for name in variables(literal.atom))
             if len(alternatives) > 1 and all(bound.keys() <= bound_by(way) for way in alternatives):
                 word = next(names)
-                part = (word, *bound) if bound else word
+                part = applied(word, bound)
                 rules += [Rule(number, part, way) for way in alternatives]
                 ways[place] = [(Literal(True, part),)]
     rules += [Rule(number, head, way) for way in each_of(ways)]

@@ -173,6 +173,11 @@ def arguments_of(atom: Expression) -> tuple[Expression, ...]:
     return () if isinstance(atom, str) else atom[1:]
 
 
+def applied(name: str, arguments: Collection[Expression]) -> Expression:
+    """Returns the sentence or the term of this name with these arguments."""
+    return (name, *arguments) if arguments else name
+
+
 def head_of(sentence: Expression) -> Expression:
     """Returns the head of a rule, or the fact itself."""
     return sentence[1] if isinstance(sentence, tuple) and sentence[:1] == ("<=",) else sentence

@@ -6,7 +6,7 @@ import random
 
 from ggp_tools.holding.game import Game
 from ggp_tools.instantiating import making
-from ggp_tools.kif import Expression, Refused, spelled
+from ggp_tools.kif import Expression, Refused, applied, spelled
 from ground_matches import differs, instantiated, played, played_again
 
 FORMS = [(how, is_split) for how in (making.NEVER, making.ALWAYS) for is_split in (False, True)]
@@ -68,10 +68,6 @@ class Source:
             return (self.around, arguments[0], applied(self.name, arguments[1:]) if self.name else arguments[1])
         inner = applied(self.name, arguments)
         return (self.around, inner) if self.around else inner
-
-
-def applied(name: str, arguments: list[Expression]) -> Expression:
-    return (name, *arguments) if arguments else name
 
 
 class Describing:

@@ -12,7 +12,7 @@ import unittest.mock
 from ggp_tools.instantiating import folding, gringo, limits, making, rounds
 from ggp_tools.instantiating.grounding import sentence_of
 from ggp_tools.gdl import GAME, Literal, Rule, all_rules
-from ggp_tools.kif import Refused, expressions, spelled
+from ggp_tools.kif import Refused, expressions, head_of, relation, spelled
 from support import GAMES, outside, raised
 
 ground_games = outside("ground_games")
@@ -53,7 +53,7 @@ def folded(rules, most_sentences, most_bytes):
 
 
 def own(heads):
-    return {head for head in heads if (head if isinstance(head, str) else head[0]) in GAME}
+    return {head for head in heads if relation(head)[0] in GAME}
 
 
 class Folding(unittest.TestCase):
@@ -210,8 +210,7 @@ class Folding(unittest.TestCase):
 
 
 def legal_heads(sentences):
-    heads = (sentence[1] if sentence[0] == "<=" else sentence for sentence in sentences)
-    return list(dict.fromkeys(head for head in heads if head[0] == "legal"))
+    return list(dict.fromkeys(head for head in map(head_of, sentences) if head[0] == "legal"))
 
 
 class Rounds(unittest.TestCase):

@@ -16,7 +16,7 @@ from unittest import mock
 
 from ggp_tools.holding.command import DIFFERENT, SAME, Holding
 from ggp_tools.instantiating import making, rounds
-from ggp_tools.kif import Expression, relation
+from ggp_tools.kif import head_of, relation
 from ggp_tools.printable import counted
 from ground_matches import Record, Sentences, begun, description, ended, instantiated, played, played_again
 
@@ -37,10 +37,6 @@ def right_rules(name: str) -> Sentences:
 @functools.cache
 def holding(name: str) -> Holding:
     return Holding(description(name))
-
-
-def head_of(sentence: Expression) -> Expression:
-    return sentence[1] if sentence[0] == "<=" else sentence
 
 
 def places(sentences: Sentences, names: tuple[str, ...]) -> list[int]:

@@ -5,11 +5,10 @@ head becomes an auxiliary relation over these variables (`split1`, `split2` ..).
 other variables of the part occur nowhere else. Relations that depend on themselves are not split."""
 
 import itertools
-from collections.abc import Sequence
 from operator import attrgetter
 from typing import NamedTuple
 
-from ggp_tools.kif import DIGITS, Expression, atoms, fresh, put, relation, variables
+from ggp_tools.kif import DIGITS, applied, atoms, fresh, put, relation, variables
 from ggp_tools.gdl import Literal, Relations, Rule
 
 # Longer bodies have too many parts to try all of them. Rules with fewer variables have no parts to split off.
@@ -61,10 +60,6 @@ class Splitting:
             self.relations[key] = f"{self.word}{len(self.relations) + 1}"
             self.add(Rule(sentence, applied(self.relations[key], key[1]), key[0]))
         return Literal(True, applied(self.relations[key], [name for name in names if name in shared]))
-
-
-def applied(word: str, arguments: Sequence[str]) -> Expression:
-    return (word, *arguments) if arguments else word
 
 
 def best_part(rule: Rule) -> Part | None:
