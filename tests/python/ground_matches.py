@@ -7,7 +7,6 @@ import random
 from collections.abc import Sequence
 
 from ggp_tools.holding.following import Differs, Following
-from ggp_tools.holding.game import Game
 from ggp_tools.instantiating import making
 from ggp_tools.kif import Expression, expressions, relation, spelled
 from support import GAMES, outside
@@ -80,10 +79,10 @@ def judged(dice: random.Random, legal: Sequence[Expression], every: Sequence[Exp
     return (answer, "") if answer in legal else (legal[0], f"IL {spelled(answer)}")
 
 
-def differs(game: Game, record: Record) -> str | None:
+def differs(following: Following, record: Record) -> str | None:
     """Returns how a record differs from the description, or None."""
     try:
-        Following(game).follow(json.loads(json.dumps(record)))
+        following.follow(json.loads(json.dumps(record)))
     except Differs as why:
         return str(why)
     return None

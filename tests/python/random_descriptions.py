@@ -4,6 +4,7 @@ the same records with the other forms, and each record is checked against the de
 
 import random
 
+from ggp_tools.holding.following import Following
 from ggp_tools.holding.game import Game
 from ggp_tools.instantiating import making
 from ggp_tools.kif import Expression, Refused, applied, spelled
@@ -207,13 +208,13 @@ class Tried:
         except Refused as why:
             # The grounder takes a long time for some joins, especially on a busy computer.
             return None if str(why).startswith("stopped after ") else f"refused: {why}"
-        game = Game(self.text)
+        following = Following(Game(self.text))
         for number in range(MATCHES):
             record = played(first, seed * MATCHES + number, MOST_TURNS)
             self.turns += len(record["moves"])
             for form, other in zip(FORMS[1:], others):
                 if played_again(other, record) != record:
                     return f"match {number}: {form} is another game than {FORMS[0]}"
-            if words := differs(game, record):
+            if words := differs(following, record):
                 return f"match {number}: {words}"
         return None

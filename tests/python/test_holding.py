@@ -8,11 +8,10 @@ import unittest
 from unittest import mock
 
 from ggp_tools.holding.command import MOST_CALLS, Holding, Late
-from ggp_tools.holding.following import Differs, Following
+from ggp_tools.holding.following import Following, read_record
 from ggp_tools.holding.game import Game
 from ggp_tools.holding.positions import Whole
 from ggp_tools.holding.reading import NotFollowed
-from ggp_tools.holding.following import read_record
 from ggp_tools.kif import Refused, expressions, told
 from ggp_tools.records.record import NoRecord, parsed
 from ground_matches import differs, played
@@ -32,12 +31,11 @@ class Followed(unittest.TestCase):
     RULES = "(role ann) (role bob) (init s) (legal ann go) (legal bob wait)"
 
     def words(self, text, moves=(), errors=None, states=None, phase="playing", cause=None, goals=(), roles=("ann", "bob"), **more):
-        moves = [list(turn) for turn in moves]
         record = {
-            "roles": list(roles), "moves": moves, "errors": errors or [[""] * len(roles) for _ in moves], "states": states or [["s"]] * (len(moves) + 1),
-            "goalValues": list(goals), "phase": phase, "cause": cause, **more,
+            "roles": roles, "moves": moves, "errors": errors or [[""] * len(roles) for _ in moves], "states": states or [["s"]] * (len(moves) + 1),
+            "goalValues": goals, "phase": phase, "cause": cause, **more,
         }
-        return differs(Game(text), record)
+        return differs(Following(Game(text)), record)
 
     def test_of_each_kind_five_are_told(self):
         terms = [f"t{at}" for at in (3, 1, 6, 2, 7, 5, 4)]
@@ -135,12 +133,7 @@ class Followed(unittest.TestCase):
         self.assertEqual(following.seen, {("ann", "go"): 4, ("ann", "stay"): 3})
 
     def words_of(self, following, turns, errors):
-        record = {"goalValues": [], "phase": "playing", **turns, "moves": list(map(list, turns["moves"])), "roles": list(turns["roles"]), "errors": errors}
-        try:
-            following.follow(record)
-        except Differs as why:
-            return str(why)
-        return None
+        return differs(following, {"goalValues": [], "phase": "playing", **turns, "errors": errors})
 
     def test_ends_without_goals(self):
         over = f"{self.RULES} (<= terminal (true s)) (goal ann 5)"
