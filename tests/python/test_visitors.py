@@ -66,6 +66,12 @@ class Limits(Served):
         answer = b"".join(iter(lambda: many.recv(65_536), b""))
         self.assertEqual(answer.count(b"HTTP/1.1 404 "), 1)
 
+    def test_a_compressed_body_is_not_decompressed(self):
+        with patch("zlib.decompressobj", side_effect=AssertionError) as decompressing:
+            asked = self.connect(b"GET /none.html HTTP/1.1\r\nHost: localhost\r\nContent-Encoding: gzip\r\nContent-Length: 9\r\n\r\n123456789")
+            self.assertTrue(asked.recv(100).startswith(b"HTTP/1.1 404 "))
+        decompressing.assert_not_called()
+
     def test_who_takes_nothing_is_ended(self):
         with patch.object(self.site, "page", return_value=b"x" * (64 << 20)), patch.object(http_server, "PATIENCE", 0.2):
             slow = self.connect(b"GET / HTTP/1.1\r\nHost: localhost\r\n\r\n")

@@ -59,7 +59,9 @@ class Connection(web.RequestHandler):
     __slots__ = ("visitors", "client", "is_idle", "left", "clock", "asking", "answer")
 
     def __init__(self, visitors: Visitors, server: web.Server) -> None:
-        super().__init__(server, loop=asyncio.get_running_loop(), access_log=None, logger=SILENT, lingering_time=0)
+        # A compressed body would fill the memory, and bodies are not read.
+        loop = asyncio.get_running_loop()
+        super().__init__(server, loop=loop, access_log=None, logger=SILENT, lingering_time=0, auto_decompress=False)
         self.visitors, self.client, self.is_idle, self.left = visitors, "", True, LONGEST_HEAD
         self.clock: asyncio.TimerHandle | None = None
         self.asking: asyncio.Task | None = None
