@@ -326,6 +326,12 @@ class Pages(unittest.TestCase):
         self.assertEqual(told[-1]["role"], "xplayer")
         events.close()
 
+    def test_a_page_whose_computer_is_gone_without_a_word_does_not_stay_open(self):
+        self.request("GET", self.of_page("events"))
+        (asked,) = self.server.requests.values()
+        # The kernel then ends the connection, so that sending the next line fails.
+        self.assertEqual(asked.connection.getsockopt(socket.IPPROTO_TCP, socket.TCP_USER_TIMEOUT), server.PATIENCE * 1_000)
+
     def test_nothing_is_answered_without_the_token(self):
         here = f"127.0.0.1:{self.server.server_address[1]}"
         browser = {"Origin": f"http://{here}", "Sec-Fetch-Site": "same-origin"}

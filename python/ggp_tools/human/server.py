@@ -74,6 +74,8 @@ class Request(io.RawIOBase):
         """Records that the request has arrived: the connection no longer gives way, and the answer gets a deadline of its own."""
         self.is_idle = False
         self.connection.settimeout(PATIENCE)
+        # The kernel ends a connection whose client is gone without a word, for example because its computer is offline.
+        self.connection.setsockopt(socket.IPPROTO_TCP, socket.TCP_USER_TIMEOUT, PATIENCE * 1_000)
 
     def end(self) -> None:
         self.visitors.go(self)
