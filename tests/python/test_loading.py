@@ -37,7 +37,7 @@ class Takes:
 
 def arguments(command):
     """Returns the arguments of a command that runs the module for grounding."""
-    return command[command.index("ggp_tools.instantiating") + 1 :]
+    return command[command.index("ggp_tools.instantiating.command") + 1 :]
 
 
 class Loading(InFolder):
