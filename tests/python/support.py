@@ -8,6 +8,7 @@ import pathlib
 import subprocess
 import sys
 import tempfile
+import time
 import types
 import unittest
 
@@ -67,6 +68,12 @@ def stand_in(**answers):
     return referee
 
 
+def wait_until(holds):
+    """Waits until a condition holds. The time limit of the whole run ends a wait that is in vain."""
+    while not holds():
+        time.sleep(0.02)
+
+
 def raised(kind, ask, *arguments, **more):
     """Returns the exception of this kind that a call raises."""
     try:
@@ -106,6 +113,27 @@ def run_into_full(folder, *words):
     with open("/dev/full", "w") as full:
         status, _, said = run(folder, *words, stdout=full)
     return status, said
+
+
+class Reports:
+    """A reporter that records its lines."""
+
+    def __init__(self):
+        self.lines, self.notes, self.begun, self.ended, self.shown, self.drawn = [], [], [], [], [], []
+        self.fault, self.journal, self.is_shown = None, types.SimpleNamespace(fault=None), True
+        self.line, self.note, self.draw = self.lines.append, self.notes.append, self.drawn.append
+
+    def begins(self, match, host=None):
+        self.begun.append((match.id, host))
+
+    def ends(self, result, seconds):
+        self.ended.append((result, seconds))
+
+    def progress(self, *numbers):
+        self.shown.append(numbers)
+
+    def clear(self):
+        self.draw("")
 
 
 def script(path, text):

@@ -11,7 +11,7 @@ from ggp_tools.competition.competition_file import read_competition
 from ggp_tools.competition.files import Folder, Refused, held
 from ggp_tools.competition.growth import Again, History
 from ggp_tools.competition.plan import Plan, order_again, replaceable_match, schedule_of
-from support import toml
+from support import raised, toml
 
 RULES = {"nim": types.SimpleNamespace(text=b"(role first) (role second)", roles=("first", "second"), is_large=False)}
 ACCOUNT = b"0\topen cup-001 0 10 10\topened\n"
@@ -54,9 +54,7 @@ class OrderedAgain(unittest.TestCase):
         return found
 
     def assert_refused(self, words, match):
-        with self.assertRaises(Refused) as why:
-            replaceable_match(self.plan, Lawful(), match)
-        self.assertEqual(str(why.exception), words)
+        self.assertEqual(str(raised(Refused, replaceable_match, self.plan, Lawful(), match)), words)
 
     def test_a_match_that_counts_gets_another_in_its_place(self):
         match = self.order("cup-001")
@@ -88,9 +86,8 @@ class OrderedAgain(unittest.TestCase):
 
     def test_a_reason_is_printable_and_of_some_length(self):
         for reason in ("", " x", "x ", "x" * 201, "a\tb", "a\nb", "\xe4"):
-            with self.assertRaises(Refused) as why:
-                self.order("cup-001", reason)
-            self.assertEqual(str(why.exception), "--reason: expected 1 to 200 printable ASCII characters, without a space at either end")
+            why = raised(Refused, self.order, "cup-001", reason)
+            self.assertEqual(str(why), "--reason: expected 1 to 200 printable ASCII characters, without a space at either end")
         self.assertFalse(self.folder.again.exists() or self.folder.schedule.exists())
         for reason in ("x", "a b", "x" * 200, "!~"):
             self.assertEqual(self.order("cup-001", reason).id, "cup-003")

@@ -188,7 +188,6 @@ class Archive(unittest.TestCase):
                 self.assertRegex(said, r"^[\x20-\x7e\n]*$")
                 self.assertNotIn(f"{tempfile.gettempdir()}/tmp", said)
         self.assertEqual(sorted(file.name for file in self.other.iterdir()), ["cup.tar.gz", "spoilt.tar.gz"])
-        print(f"an archive is checked, and refused after each of {len(SPOILINGS)} spoilings", flush=True)
 
     def test_another_program_publishes_nothing(self):
         published, other = self.archive.read_bytes(), program_but(self.other / "other", '"$1" = --version', "echo ggp_manager 9; exit")
@@ -266,8 +265,7 @@ class Archive(unittest.TestCase):
             self.assertEqual(run(self.folder, "publish"), (2, "", said))
 
     def test_a_description_that_is_another_one_is_not_published(self):
-        cup = self.other / "cup"
-        shutil.copytree(self.folder, cup)
+        cup = self.copied()
         published = (cup / "cup.tar.gz").read_bytes()
         for change, words in ((b"(role nonsense)\n", "is not the description that the rules of odd were made from"), (None, "is missing: it is the description of odd, and the archive needs a copy of it")):
             (cup / "odd.kif").write_bytes(change) if change else (cup / "odd.kif").unlink()
@@ -281,8 +279,7 @@ class Archive(unittest.TestCase):
         self.assertEqual((run(cup, "publish")[0], (cup / "cup.tar.gz").read_bytes()), (0, published))
 
     def test_pages_may_be_in_another_place(self):
-        cup, web = self.other / "cup", self.other / "web"
-        shutil.copytree(self.folder, cup)
+        cup, web = self.copied(), self.other / "web"
         published = (cup / "cup.tar.gz").read_bytes()
         shutil.move(cup / "pages", web)
         (web / "mine.html").touch()
@@ -316,8 +313,7 @@ class Archive(unittest.TestCase):
         self.assertEqual(sorted(file.name for file in self.other.iterdir()), ["link", "pipe", "there"])
 
     def test_an_archive_has_a_greatest_size(self):
-        cup, size = self.other / "cup", sum(map(len, self.files().values()))
-        shutil.copytree(self.folder, cup)
+        cup, size = self.copied(), sum(map(len, self.files().values()))
         before = (cup / "cup.tar.gz").read_bytes()
         words = ["ggp_competition", "publish", str(cup), "--program", program()]
         for most, status in ((size - 1, 1), (size, 0)):

@@ -12,18 +12,18 @@ import types
 import unittest
 from unittest import mock
 
-from ggp_tools.competition import archive, command, history, packing
+from ggp_tools.competition import archive, command, history
 from ggp_tools.competition.archive import SUMS, check_archive, files_below, publish
 from ggp_tools.competition.files import Refused
 from ggp_tools.competition.match_files import check_records
 from ggp_tools.competition.known import Known
-from ggp_tools.competition.packing import Spoilt, TooLarge
+from ggp_tools.competition.packing import Spoilt
 from ggp_tools.competition.plan import make_plan, read_plan
 from ggp_tools.competition.table_text import in_order
 from ggp_tools.match_log import End, line_of
 from ggp_tools.referee import Unchecked
 from live_support import BEGAN, ENDED, RULES, record_of, started
-from support import InFolder, toml
+from support import InFolder, raised, toml
 from test_archive import changed, files_of, packed, without
 
 HEAD = "start = 5\nplay = 5\n"
@@ -87,8 +87,8 @@ class Made(unittest.TestCase):
         self.assertEqual((faults, misfits), ({}, {}))
         return in_order(self.plan, found)
 
-    def publish(self, known=None):
-        return publish(self.plan, self.referee, self.results(), self.path, known or Known(self.folder))
+    def publish(self):
+        return publish(self.plan, self.referee, self.results(), self.path, Known(self.folder))
 
     def check(self, data=None):
         if data is not None:
@@ -164,9 +164,8 @@ class Checked(Made):
         self.referee.wrong = {b'"cup-002"': "not lawful: goals"}
         self.assertEqual(self.check()[0], ["cup-002: not lawful: goals"])
         self.referee.unchecked = "`ggp_manager verify` gave no verdict for {}: it printed nothing, status 3"
-        with self.assertRaises(Unchecked) as why:
-            self.check()
-        self.assertEqual(str(why.exception), "`ggp_manager verify` gave no verdict for cup/rules/heap.kif: it printed nothing, status 3")
+        why = raised(Unchecked, self.check)
+        self.assertEqual(str(why), "`ggp_manager verify` gave no verdict for cup/rules/heap.kif: it printed nothing, status 3")
 
     def test_a_competition_with_logs_of_an_earlier_version_is_refused(self):
         read_plan(str(self.folder), self.referee)
@@ -223,10 +222,9 @@ class Checked(Made):
         file.write_text(texts[2])
         for number, size, found in ((1, most, f"2 with {most}"), (2, most - 1, f"2 with {most}"), (0, most, f"1 with {len(texts[0])}")):
             with mock.patch.multiple(history, MOST_EARLIER=number, MOST_OF_EARLIER=size):
-                with self.assertRaises(Refused) as why:
-                    make_plan(str(self.folder), self.referee)
-                words = f"{{}}/earlier: expected at most {number} files with {size} bytes in total, found {found}"
-                self.assertEqual(str(why.exception), f"{words.format(self.folder)}: the schedule can't grow any more; begin another competition")
+                words = f"{self.folder}/earlier: expected at most {number} files with {size} bytes in total, found {found}"
+                said = str(raised(Refused, make_plan, str(self.folder), self.referee))
+                self.assertEqual(said, f"{words}: the schedule can't grow any more; begin another competition")
         with mock.patch.object(history, "MOST_EARLIER", 0):
             self.assertEqual(self.check()[0], [f"cup/earlier: expected at most 0 files with 67,108,864 bytes in total, found 1 with {len(texts[0])}"])
         self.assertEqual(len(make_plan(str(self.folder), self.referee).history.earlier), 2)
@@ -239,7 +237,7 @@ class Checked(Made):
 
     def test_the_line_of_a_match_has_the_checksums(self):
         digest = "0" * 64
-        self.plan.folder.description_sums().write_text(f"{digest}  heap.kif\n")
+        self.plan.folder.description_sums.write_text(f"{digest}  heap.kif\n")
         sums = {(line["rules"], line["description"]) for line in map(json.loads, archive.matches_text(self.plan, self.results()).splitlines())}
         self.assertEqual(sums, {(hashlib.sha256((self.folder / "rules/heap.kif").read_bytes()).hexdigest(), digest)})
 
@@ -251,26 +249,14 @@ class Checked(Made):
         self.publish()
         self.assertEqual((files_of(self.path), [other.exists() for other in others]), (files, [True, True]))
 
-    def test_more_bytes_than_an_archive_may_have(self):
-        self.publish()
-        size, known = sum(map(len, files_of(self.path).values())), Known(self.folder)
-        with mock.patch.object(packing, "MOST_BYTES", size):
-            self.publish(known)
-        self.path.unlink()
-        with mock.patch.object(packing, "MOST_BYTES", size - 1), self.assertRaises(TooLarge) as why:
-            self.publish(known)
-        self.assertEqual((str(why.exception), self.path.exists()), (f"it has more than {size - 1:,} bytes, the limit of an archive", False))
-
     def test_faults_of_this_computer_are_none_of_the_archive(self):
         for number in (errno.ENOSPC, errno.EDQUOT, errno.EIO, errno.EMFILE, errno.ENFILE, errno.ENOMEM):
-            with mock.patch.object(archive, "unpack", side_effect=OSError(number, "short")), self.assertRaises(Unchecked) as why:
-                self.check()
-            self.assertEqual(str(why.exception), f"the archive can't be checked in {tempfile.gettempdir()}: short")
+            with mock.patch.object(archive, "unpack", side_effect=OSError(number, "short")):
+                self.assertEqual(str(raised(Unchecked, self.check)), f"the archive can't be checked in {tempfile.gettempdir()}: short")
         with mock.patch.object(archive, "unpack", side_effect=OSError(errno.EACCES, "no")), self.assertRaises(OSError):
             self.check()
-        with mock.patch.object(archive, "unpack", side_effect=MemoryError), self.assertRaises(Unchecked) as why:
-            self.check()
-        self.assertEqual(str(why.exception), "the archive can't be checked: out of memory")
+        with mock.patch.object(archive, "unpack", side_effect=MemoryError):
+            self.assertEqual(str(raised(Unchecked, self.check)), "the archive can't be checked: out of memory")
 
     def test_an_archive_that_can_not_be_read_is_no_verdict(self):
         for name, place, status in (("check", "check_archive", 3), ("table", "read_plan", 1)):

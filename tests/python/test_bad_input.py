@@ -15,7 +15,7 @@ from ggp_tools.competition.files import Refused, write_whole
 from ggp_tools.competition.game import trial
 from ggp_tools.competition.plan import faults_of_descriptions, make_plan, read_plan
 from ggp_tools.referee import NoReferee, find_program
-from support import COMMAND, GAMES, TOP, InFolder, call, program, program_but, run, run_into_full, stand_in, toml
+from support import COMMAND, GAMES, TOP, InFolder, call, program, program_but, raised, run, run_into_full, stand_in, toml
 
 PLAYERS = [("ann", "127.0.0.1:9147"), ("bob", "127.0.0.1:9148")]
 FACTS = "(role a)\n(role b)\n"
@@ -111,10 +111,8 @@ class BadInput(InFolder):
             game.write_text(text)
             self.write(PLAYERS, [("game", "game.kif")])
             if words:
-                with self.assertRaises(Refused) as why:
-                    make_plan(self.folder, referee)
                 said = f"{self.folder}/competition.toml:4: games.file: {game}: {words}; with `aborts = true` it is planned anyway"
-                self.assertEqual(str(why.exception), said)
+                self.assertEqual(str(raised(Refused, make_plan, self.folder, referee)), said)
                 self.assertFalse((self.folder / "schedule.tsv").exists())
                 self.write(PLAYERS, [("game", "game.kif", "aborts = true")])
             self.assertEqual(len(make_plan(self.folder, referee).matches), 2)
@@ -178,12 +176,14 @@ class BadInput(InFolder):
         schedule.write_text(schedule.read_text().replace("ann bob", "bob ann"))
         self.assert_refused("schedule.tsv does not agree with competition.toml", "table")
 
-    def test_descriptions(self):
-        for text, words in DESCRIPTIONS:
-            with self.subTest(words):
-                (self.folder / "game.kif").write_text(text)
-                self.write(PLAYERS, [("game", "game.kif")])
-                self.assert_refused(f"competition.toml:4: games.file: game.kif: {words}")
+    def test_the_mistakes_of_all_descriptions_are_reported_together(self):
+        for number, (text, _) in enumerate(DESCRIPTIONS):
+            (self.folder / f"{number}.kif").write_text(text)
+        self.write(PLAYERS, [("none", "none.kif"), ("directory", "."), *((f"g{number}", f"{number}.kif") for number in range(len(DESCRIPTIONS)))])
+        self.assert_refused([
+            "competition.toml:4: games.file: none.kif: it can't be read: No such file", "competition.toml:7: games.file: .: it can't be read: Is a directory",
+            *(f"competition.toml:{10 + 3 * number}: games.file: {number}.kif: {words}" for number, (_, words) in enumerate(DESCRIPTIONS)),
+        ])
 
     @unittest.skipUnless(shutil.which("gringo"), "gringo is not installed")
     def test_a_description_past_the_limits(self):
@@ -215,9 +215,8 @@ class BadInput(InFolder):
         killed = self.folder / "killed"
         killed.write_text("import os\nos.kill(os.getpid(), 9)\n")
         ended = subprocess.run([sys.executable, killed], capture_output=True)
-        with mock.patch("ggp_tools.descriptions.loading.run_module", lambda *_: ended), self.assertRaises(NoDescription) as why:
-            instantiated(self.folder / "game.kif", b"", False, 60)
-        self.assertEqual(str(why.exception), "ggp-instantiate ended with status -9")
+        with mock.patch("ggp_tools.descriptions.loading.run_module", lambda *_: ended):
+            self.assertEqual(str(raised(NoDescription, instantiated, self.folder / "game.kif", b"", False, 60)), "ggp-instantiate ended with status -9")
 
     def test_a_description_behind_links_in_a_circle(self):
         (self.folder / "loop").symlink_to("loop")
@@ -231,11 +230,6 @@ class BadInput(InFolder):
         self.assertEqual((status, out), (3, ""))
         self.assertEqual(said, f"ggp_competition: `ggp_manager verify` gave no verdict for {GAMES}/tictactoe.kif: want of memory; it ended with status 3; nothing was changed\n")
         self.assertEqual(sorted(file.name for file in self.folder.iterdir()), ["competition.toml", "short"])
-
-    def test_all_descriptions_are_told_at_once(self):
-        (self.folder / "one.kif").write_text("(role a")
-        self.write(PLAYERS, [("one", "one.kif"), ("two", "two.kif"), ("three", ".")])
-        self.assert_refused(["one.kif: line 1, column 1: a list", "two.kif: it can't be read: No such file", ".: it can't be read: Is a directory"])
 
     def test_a_description_where_the_rules_are_written(self):
         (self.folder / "rules").mkdir()
@@ -285,10 +279,9 @@ class BadInput(InFolder):
             self.assertRegex(of_command, r"\n +--program FILE +the referee, ggp_manager \(")
 
     def test_no_referee_is_found(self):
-        with mock.patch("sys.argv", ["/none/bin/ggp_competition"]), mock.patch("os.access", return_value=False), self.assertRaises(NoReferee) as why:
-            find_program(None)
         said = f"ggp_manager is not in /none/bin, {TOP}/bin, nor on the PATH of the shell; name it with `--program FILE`"
-        self.assertEqual(str(why.exception), said)
+        with mock.patch("sys.argv", ["/none/bin/ggp_competition"]), mock.patch("os.access", return_value=False):
+            self.assertEqual(str(raised(NoReferee, find_program, None)), said)
 
     def test_a_folder_with_a_name_that_the_output_can_not_say(self):
         self.write(PLAYERS, [("countdown", GAMES / "countdown.kif")])

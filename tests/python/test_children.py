@@ -122,6 +122,18 @@ def test_a_job_that_runs_gets_a_byte_now_and_then_and_its_task(monkeypatch):
     assert asyncio.run(go()).output.split(b" ", 1)[1] == b'{"words": ["one", "two words"]}\n\n'
 
 
+def test_a_launcher_that_ends_without_reading_its_input_is_no_error(caplog):
+    async def go():
+        job = Kept()
+        job.start(["sh", "-c", "sleep 0.1"], {"words": ["x" * (1 << 20)]})
+        await job.running
+        return job
+
+    job = asyncio.run(go())
+    gc.collect()
+    assert (job.why, job.process.returncode, caplog.records) == ("", 0, [])
+
+
 def test_what_a_process_leaves_behind_is_not_waited_for():
     job = ran("import subprocess; print(subprocess.Popen(['sleep', '600']).pid)")
     assert job.process.returncode == 0
@@ -147,21 +159,18 @@ def test_a_job_that_is_ended_is_ended_with_what_it_has_started(hears):
 
 # ---- other processes
 
-def test_a_process_gets_its_input_and_is_told_by_its_streams():
-    done = asyncio.run(run(["sh", "-c", "cat; echo why >&2; exit 3"], b"one\ntwo"))
-    assert (done.status, done.output, done.message(), done.seconds > 0) == (3, b"one\ntwo", "why", True)
+def test_a_process_has_an_empty_input_and_its_streams_are_read():
+    done = asyncio.run(run(["sh", "-c", "cat; echo one; echo why >&2; exit 3"]))
+    assert (done.status, done.output, done.message(), done.seconds > 0) == (3, b"one\n", "why", True)
 
 
 def test_a_verdict_is_the_object_that_is_printed():
-    done = [asyncio.run(run(["cat"], given)) for given in (b'{"verdict":"ready"}\n', b"")]
+    done = [asyncio.run(run(["printf", text])) for text in ('{"verdict":"ready"}\n', "")]
     assert [each.verdict() for each in done] == [{"verdict": "ready"}, {}]
 
 
-def test_a_process_that_reads_no_input_is_no_error(caplog):
-    done = asyncio.run(run(["sleep", "0.1"], b"x" * (1 << 20)))
-    assert (done.status, done.message()) == (0, "it ended with status 0, without a message")
-    gc.collect()
-    assert caplog.records == []
+def test_a_process_that_ends_without_a_word():
+    assert asyncio.run(run(["true"])).message() == "it ended with status 0, without a message"
 
 
 def test_a_process_begun_as_this_one_ends_does_not_run(monkeypatch):

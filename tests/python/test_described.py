@@ -17,7 +17,7 @@ GENERAL, GROUND = b"(role ?x)", b"(role x)"
 class Descriptions(InFolder):
     def test_only_the_planned_description_is_returned(self):
         plan = plan_in(str(self.folder), ["ann", "bob"])
-        game, sums = plan.competition.games[0], plan.folder.description_sums()
+        game, sums = plan.competition.games[0], plan.folder.description_sums
         file = plan.folder.description(game)
         other = f"{file} is not the description that the rules of heap were made from"
         for planned, text, wanted in (

@@ -9,7 +9,7 @@ from ggp_tools.competition.history import MOST_EARLIER, MOST_OF_EARLIER
 from ggp_tools.competition.schedule import MOST_MATCHES
 from ggp_tools.competition.toml_lines import MOST_SIGNS
 from planning import planned
-from support import TOP, toml
+from support import TOP, raised, toml
 
 PLAYERS = [("ann", "10.0.0.1:9147"), ("bob", "[::1]:9148"), ("cid", "host.example:9149", "concurrent = 3")]
 GAMES = [("chess", "chess.kif"), ("go", "go.kif")]
@@ -212,9 +212,7 @@ class CompetitionFile(unittest.TestCase):
         texts = [f'name = "{long}"', f'name = "cup"\n{long} = 1', "".join(f"{at}x = 1\n" for at in range(1_000)), f"anchor = {{{long} = 1}}", f'[form]\nkind = "schedule"\nlines = ["{long} {long} {long}"]']
         texts += [f'[[games]]\nname = "{long}"\n' * 2, f'start = {"9" * 4_000}', f'[[players]]\nname = "a"\ncommand = ["{{port}}"]\nenvironment = {{"{long}=" = 1}}']
         for text in texts:
-            with self.assertRaises(Mistaken) as why:
-                read_competition(text.encode())
-            lines = mistake_lines("cup.toml", why.exception.mistakes).splitlines()
+            lines = mistake_lines("cup.toml", raised(Mistaken, read_competition, text.encode()).mistakes).splitlines()
             self.assertLess((len(lines), max(map(len, lines))), (102, 1_000))
 
     def test_whatever_comes_is_read_or_told(self):

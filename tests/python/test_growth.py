@@ -13,7 +13,7 @@ from ggp_tools.competition.growth import Again, History, Misfit, fixed, grown, r
 from ggp_tools.competition.results import Result
 from ggp_tools.competition.schedule import asked
 from planning import nothing_known, planned
-from support import GAMES, InFolder, run, toml
+from support import GAMES, InFolder, raised, run, toml
 
 ROLES = {"two": 2, "one": 1, "three": 3}
 
@@ -40,18 +40,6 @@ class Growth(unittest.TestCase):
             history = History((*history.earlier, (len(grown(history, before, ROLES, nothing_known).matches), before)), history.again)
         return grown(history, versions[-1], ROLES, nothing_known)
 
-    def test_what_was_planned_stays_and_all_that_is_asked_for_is_there(self):
-        steps = [competition(3), competition(3, 2), competition(5, 2), competition(5, 4, ("two", "one", "three")), competition(6, 4, ("two", "one"))]
-        for last in range(1, 5):
-            found = self.grown(*steps[:last])
-            before = self.grown(*steps[: last - 1]) if last > 1 else None
-            self.assertEqual(ids(found), [f"cup-{number:03}" for number in range(1, len(found.matches) + 1)])
-            self.assertEqual(seated(found.matches), Counter(asked(steps[last - 1], ROLES)))
-            if before:
-                self.assertEqual(found.matches[: len(before.matches)], before.matches)
-        with self.assertRaises(Misfit):
-            self.grown(*steps)
-
     def test_each_version_is_planned_once(self):
         history = History(((4, competition(2)), (8, competition(2, 2))))
         with mock.patch("ggp_tools.competition.growth.asked", wraps=asked) as plan:
@@ -67,9 +55,8 @@ class Growth(unittest.TestCase):
         seats = Counter((seat, player) for match in found for seat, player in enumerate(match.players) if player in ("p4", "p5"))
         self.assertEqual(len(set(seats.values())), 1)
         self.assertEqual(seated(self.grown(before, competition(4, 3, ("three",))).matches), Counter(asked(competition(4, 3, ("three",)), ROLES)))
-        with self.assertRaises(Misfit) as why:
-            self.grown(before, competition(5, 2, ("three",)))
-        self.assertEqual(str(why.exception), "three has more than two roles, so add rounds and players separately, and run `plan` in between")
+        why = raised(Misfit, self.grown, before, competition(5, 2, ("three",)))
+        self.assertEqual(str(why), "three has more than two roles, so add rounds and players separately, and run `plan` in between")
 
     def test_lines_and_a_gauntlet(self):
         lines = 'kind = "schedule"\nlines = [{}]'
@@ -91,9 +78,7 @@ class Growth(unittest.TestCase):
             (competition(3, 2), competition(3, 1), "cup-007 (two p0 p1) was planned, but is no longer among the matches"),
             (competition(2, form=pair), competition(2, form=lines.format('"two p0 p1", "two p0 p1"')), "cup-002 (two p1 p0) was planned, but is no longer among the matches"),
         ):
-            with self.assertRaises(Misfit) as why:
-                self.grown(before, after)
-            self.assertEqual(str(why.exception), words)
+            self.assertEqual(str(raised(Misfit, self.grown, before, after)), words)
 
     def test_a_match_that_is_ordered_again(self):
         orders = Again("cup-005", "cup-002", "cut off"), Again("cup-011", "cup-005", "again")
@@ -106,21 +91,17 @@ class Growth(unittest.TestCase):
             ([Again("cup-005", "cup-001", "x"), Again("cup-006", "cup-001", "x")], "cup-006 replaces cup-001, which is not a match that counts"),
             ([Again("cup-007", "cup-001", "x")], "cup-007, which was ordered again, is not the next match"),
         ):
-            with self.assertRaises(Misfit) as why:
-                self.grown(competition(2), again=again)
-            self.assertEqual(str(why.exception), words)
+            self.assertEqual(str(raised(Misfit, self.grown, competition(2), again=again)), words)
 
     def test_the_number_of_matches_before_is_looked_at(self):
-        with self.assertRaises(Misfit) as why:
-            grown(History(((5, competition(2)),)), competition(3), ROLES, nothing_known)
-        self.assertEqual(str(why.exception), "earlier/5.toml was replaced after 4 planned matches, not after 5 as its name says")
+        why = raised(Misfit, grown, History(((5, competition(2)),)), competition(3), ROLES, nothing_known)
+        self.assertEqual(str(why), "earlier/5.toml was replaced after 4 planned matches, not after 5 as its name says")
 
     def test_a_file_before_that_nothing_has_replaced(self):
         refuse_unchanged(History(((4, competition(2)),)), competition(3))
         for counts, name in (((2, 2), 4), ((2, 3), 8)):
-            with self.assertRaises(Misfit) as why:
-                refuse_unchanged(History(tuple((4 * at, competition(count)) for at, count in enumerate(counts, 1))), competition(3))
-            self.assertIn(f"earlier/{name}.toml asks for the same matches as the file after it", str(why.exception))
+            why = raised(Misfit, refuse_unchanged, History(tuple((4 * at, competition(count)) for at, count in enumerate(counts, 1))), competition(3))
+            self.assertIn(f"earlier/{name}.toml asks for the same matches as the file after it", str(why))
 
     def test_the_limit_of_matches(self):
         orders = [Again("cup-005", "cup-001", "x"), Again("cup-006", "cup-002", "x")]
@@ -190,9 +171,7 @@ class Growth(unittest.TestCase):
             (History(((8, competition(4, 1, games)),)), competition(5, 2, games), "more has more than two roles, so add rounds and players separately"),
             (History(((9, competition(3)),)), competition(3, head="strikes = 1"), "strikes was 0 and is now 1"),
         ):
-            with self.assertRaises(Misfit) as why:
-                grown(history, after, {**ROLES, "more": 3}, nothing_known)
-            self.assertIn(words, str(why.exception))
+            self.assertIn(words, str(raised(Misfit, grown, history, after, {**ROLES, "more": 3}, nothing_known)))
 
 
 # A file with all kinds of tables, by their names and keys.
@@ -350,17 +329,6 @@ class Histories(InFolder):
     def test_what_can_not_be_ordered_again(self):
         self.write(2, 1)
         self.planned()
-        for words, said in (
-            (["cup-009", "--reason", "x"], "schedule.tsv has no match cup-009\n"),
-            (["cup-001", "--reason", "x"], "cup-001 has no record, so `ggp_competition play` plays it\n"),
-            (["cup-001", "--reason", " x"], "--reason: expected 1 to 200 printable ASCII characters, without a space at either end\n"),
-            (["cup-001", "--reason", "\N{BULLET}"], "--reason: expected 1 to 200 printable"),
-        ):
-            status, out, told = run(self.folder, "again", *words)
-            self.assertEqual((status, out), (2, ""))
-            self.assertIn(said, told)
-        (self.folder / "records").mkdir()
-        (self.folder / "records/cup-001.json").write_text("{}\n")
-        said = "ggp_competition: cup-001 does not count, so `ggp_competition play` plays it again: its call log is missing\n"
-        self.assertEqual(run(self.folder, "again", "cup-001", "--reason", "x"), (2, "", said))
+        for reason, said in (("x", "schedule.tsv has no match cup-009"), ("\N{BULLET}", "--reason: expected 1 to 200 printable ASCII characters, without a space at either end")):
+            self.assertEqual(run(self.folder, "again", "cup-009", "--reason", reason), (2, "", f"ggp_competition: {said}\n"))
         self.assertFalse((self.folder / "again.tsv").exists())

@@ -55,6 +55,13 @@ class Made:
 
 
 class Values(InCache):
+    def kept(self):
+        """Stores a value, and returns the cache."""
+        one = Known(self.folder)
+        one.put("lines", "a", 1)
+        one.write()
+        return one
+
     def test_a_value_is_kept_under_its_sum(self):
         one = Known(self.folder)
         key = sum_of_parts(b"a", b"bc")
@@ -66,10 +73,7 @@ class Values(InCache):
         self.assertIsNone(Known(self.folder / "other").get("lines", key))
 
     def test_a_file_that_others_may_write_is_not_read(self):
-        one = Known(self.folder)
-        one.put("lines", "a", 1)
-        one.write()
-        path = self.cache / one.name
+        path = self.cache / self.kept().name
         self.assertEqual(path.stat().st_mode & 0o777, 0o600)
         path.chmod(0o620)
         self.assertIsNone(Known(self.folder).get("lines", "a"))
@@ -94,10 +98,7 @@ class Values(InCache):
         self.assertEqual([three.get(*pair) for pair in (("lines", "a"), ("lines", "b"), ("pages", "c"))], [1, None, 1])
 
     def test_each_byte_that_is_another_one_is_seen(self):
-        one = Known(self.folder)
-        one.put("lines", "a", 1)
-        one.write()
-        file = next(self.cache.iterdir())
+        file = self.cache / self.kept().name
         data = file.read_bytes()
         for at in range(len(data)):
             file.write_bytes(data[:at] + bytes([data[at] ^ 1]) + data[at + 1 :])
@@ -119,9 +120,7 @@ class Values(InCache):
     def test_where_nothing_can_be_kept_all_is_found_again(self):
         self.cache.parent.parent.mkdir(exist_ok=True)
         self.cache.parent.write_text("")
-        one = Known(self.folder)
-        one.put("lines", "a", 1)
-        one.write()
+        self.kept()
         self.assertIsNone(Known(self.folder).get("lines", "a"))
 
     def test_more_than_so_many_bytes_are_not_kept(self):
@@ -132,10 +131,7 @@ class Values(InCache):
         self.assertIsNone(Known(self.folder).get("lines", "a"))
 
     def test_what_is_known_already_is_not_written_again(self):
-        one = Known(self.folder)
-        one.put("lines", "a", 1)
-        one.write()
-        file = self.cache / one.name
+        file = self.cache / self.kept().name
         os.utime(file, (1000, 1000))
         before, again = file.stat().st_ino, Known(self.folder)
         self.assertEqual(again.get("lines", "a"), 1)

@@ -7,12 +7,11 @@ import signal
 import socket
 import subprocess
 import sys
-import time
 
 import pytest
 from ggp_tools.competition.jobs import JOB
 from players import TestPlayer
-from support import GAMES, TOP, InFolder, command_of, program, program_but, run, start
+from support import GAMES, TOP, InFolder, command_of, program, program_but, run, script, start, wait_until
 
 HEAD = "start = 60\nplay = 60\nstrikes = 1\nwait = 0\ninfo = 10\ntries = 2\n"
 # The command with different times after which a job is lost, or after which its match has certainly ended.
@@ -26,16 +25,27 @@ def lines(out, word):
 
 # ---- a job
 
-def started(*, silence=600, **more):
+def started(silence=600, **more):
     return subprocess.Popen([sys.executable, "-I", JOB, str(silence)], stdin=subprocess.PIPE, stdout=subprocess.PIPE, stderr=subprocess.PIPE, text=True, **more)
+
+
+def begin(job, *words):
+    """Sends a job its command, between empty lines."""
+    job.stdin.write(f"\n\n{json.dumps({'words': words})}\n\n")
+    job.stdin.flush()
+
+
+def referee_of(job):
+    """Has a job run a process that does not end, and returns the number of the process."""
+    begin(job, "sh", "-c", "echo $$ >&2; exec sleep 600")
+    return [job.stderr.readline() for _ in range(2)][1].strip()
 
 
 def test_a_job_reports_its_node_and_the_status_from_inside():
     for status in (0, 1, 3, -9):
         script = f"echo \"it's\"; echo why >&2; {f'kill {status} $$' if status < 0 else f'exit {status}'}"
         with started(env={**os.environ, "SLURMD_NODENAME": "n7"}) as job:
-            job.stdin.write(f"\n\n{json.dumps({'words': ['sh', '-c', script]})}\n\n")
-            job.stdin.flush()
+            begin(job, "sh", "-c", script)
             # The standard input of the job is open until the job has ended.
             out, said = job.stdout.read(), job.stderr.read()
             assert (job.wait(), out) == (status % 256, "it's\n")
@@ -45,26 +55,21 @@ def test_a_job_reports_its_node_and_the_status_from_inside():
 def test_a_job_says_something_every_two_seconds_but_not_within_a_line():
     with started() as job:
         assert [job.stderr.readline() for _ in range(3)] == [f"ggp_competition: node {NODE}\n", "ggp_competition: beat\n", "ggp_competition: beat\n"]
-        job.stdin.write(json.dumps({"words": ["sh", "-c", "printf half >&2; sleep 5; echo whole >&2"]}) + "\n")
-        job.stdin.flush()
+        begin(job, "sh", "-c", "printf half >&2; sleep 5; echo whole >&2")
         said = [line for line in job.stderr.read().splitlines() if line != "ggp_competition: beat"]
         assert said == ["halfwhole", "ggp_competition: status 0"]
 
 
 def test_a_program_that_is_not_there():
     with started() as job:
-        job.stdin.write('{"words": ["/none/of these"]}\n')
-        job.stdin.flush()
+        begin(job, "/none/of these")
         assert (job.stderr.read().splitlines()[-1], job.wait()) == ("/none/of these: No such file or directory", 254)
 
 
 @pytest.mark.parametrize("hangs_up", [True, False])
 def test_a_job_ends_its_referee_if_it_hears_nothing(hangs_up):
-    with started(silence=600 if hangs_up else 1) as job:
-        job.stdin.write(json.dumps({"words": ["sh", "-c", "echo $$ >&2; exec sleep 600"]}) + "\n")
-        job.stdin.flush()
-        job.stderr.readline()
-        referee = job.stderr.readline().strip()
+    with started(600 if hangs_up else 1) as job:
+        referee = referee_of(job)
         if hangs_up:
             job.stdin.close()
         assert job.wait() == 254
@@ -74,14 +79,10 @@ def test_a_job_ends_its_referee_if_it_hears_nothing(hangs_up):
 
 def test_a_referee_ends_with_its_job():
     with started() as job:
-        job.stdin.write(json.dumps({"words": ["sh", "-c", "echo $$ >&2; exec sleep 600"]}) + "\n")
-        job.stdin.flush()
-        job.stderr.readline()
-        referee = job.stderr.readline().strip()
+        referee = referee_of(job)
         job.kill()
         job.wait()
-        while command_of(referee):
-            time.sleep(0.01)
+        wait_until(lambda: not command_of(referee))
 
 
 # ---- competitions
@@ -92,10 +93,8 @@ class Launched(InFolder):
         form = f'kind = "schedule"\nlines = {json.dumps(["countdown p0 p1"] * count)}'
         players = [(player.name, player.place(), f"concurrent = {count}") for player in self.players]
         # A launcher of these tests is a script, which gets the name of the match and the job.
-        script = self.folder / "launch"
-        script.write_text(f"#!/bin/bash\nmatch=$1 folder={self.folder}\nshift\n{launcher}\n")
-        script.chmod(0o755)
-        head = f'{head}launcher = {{command = ["{script}", "{{match}}"], slots = {slots}}}\n'
+        path = script(self.folder / "launch", f"#!/bin/bash\nmatch=$1 folder={self.folder}\nshift\n{launcher}\n")
+        head = f'{head}launcher = {{command = ["{path}", "{{match}}"], slots = {slots}}}\n'
         self.schedule = self.plan(players, [("countdown", GAMES / "countdown.kif")], form, head)
 
     def started_with(self, more, path):
@@ -154,8 +153,7 @@ class Launched(InFolder):
         for player in self.players:
             player.thinks = 1
         playing = self.started_with("open_match.SILENCE = 0.5", program())
-        while not all(player.matches for player in self.players):
-            time.sleep(0.01)
+        wait_until(lambda: all(player.matches for player in self.players))
         (self.folder / "cut").write_text("cut\n")
         for player in self.players:
             player.thinks = 0
@@ -187,12 +185,11 @@ class Launched(InFolder):
             path = program_but(self.folder / "told", '"$1" = run', f"echo $$ > {self.folder}/process; exec sleep 600")
             playing = start(self.folder, "play", "--program", path)
             self.assertEqual(playing.stdout.readline(), f"begin cup-001 countdown p0 p1 on {NODE}\n")
-            while not (self.folder / "process").exists() or not (process := (self.folder / "process").read_text().strip()):
-                time.sleep(0.01)
+            process = self.folder / "process"
+            wait_until(lambda: process.exists() and process.read_text().strip())
             playing.send_signal(number)
             out, _ = playing.communicate(timeout=600)
-            while command_of(process):
-                time.sleep(0.01)
-            (self.folder / "process").unlink()
+            wait_until(lambda: not command_of(process.read_text().strip()))
+            process.unlink()
             if number == signal.SIGTERM:
                 self.assertIn("missing cup-001: broken off", out)

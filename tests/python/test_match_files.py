@@ -25,7 +25,7 @@ from ggp_tools.competition.schedule import Match
 from ggp_tools.descriptions.loading import Rules
 from ggp_tools.records.lengths import LONGEST_ACCOUNT, USUAL_RECORD, longest_record
 from ggp_tools.referee import Unchecked
-from support import InFolder
+from support import InFolder, raised
 
 RULES = Rules(b"(role a) (role b)", "", ("a", "b"))
 
@@ -153,9 +153,7 @@ class Kept(unittest.TestCase):
 
     def test_what_can_not_be_written_is_named_as_it_would_be(self):
         for name, fault in (("none/table.txt", FileNotFoundError), ("records", IsADirectoryError)):
-            with self.assertRaises(fault) as why:
-                write_whole(self.folder.path / name, b"")
-            self.assertEqual(why.exception.filename, str(self.folder.path / name))
+            self.assertEqual(raised(fault, write_whole, self.folder.path / name, b"").filename, str(self.folder.path / name))
 
     def test_a_folder_that_is_made_lasts(self):
         new = self.folder.path / "more"
@@ -171,9 +169,7 @@ class Kept(unittest.TestCase):
 
     def test_want_of_memory_is_no_verdict(self):
         self.matches(20)
-        with self.assertRaises(Unchecked) as why:
-            check_records(self.plan, Short())
-        self.assertEqual(str(why.exception), "records and call logs can't be checked: out of memory")
+        self.assertEqual(str(raised(Unchecked, check_records, self.plan, Short())), "records and call logs can't be checked: out of memory")
 
 
 class Said(Counting):
@@ -332,9 +328,7 @@ class Looked(unittest.TestCase):
             file.unlink()
             file.mkdir()
             # If this were a verdict, the match would be played again.
-            with self.assertRaises(IsADirectoryError) as why:
-                self.look()
-            self.assertEqual(why.exception.filename, str(file))
+            self.assertEqual(raised(IsADirectoryError, self.look).filename, str(file))
             file.rmdir()
             file.write_bytes(data)
         self.assertEqual(len(self.look()[0]), 4)
@@ -345,6 +339,13 @@ class Looked(unittest.TestCase):
         for more in ({"startClock": 7}, {"goalValues": [1]}, {"strikes": 1}):
             self.write(match, **more)
             self.assertIsNone(unverified_result(self.folder, competition, self.plan.rules, match), more)
+        self.write(match)
+        record = json.loads(self.folder.record(match.id).read_text())
+        without = [json.dumps({key: value for key, value in record.items() if key != lost}) for lost in ("phase", "cause")]
+        for text, goals in (("", None), ("{", None), ("[" * 100_000, None), ("7", None), (without[0], None), (without[1], (40, 60))):
+            self.folder.record(match.id).write_text(text)
+            found = unverified_result(self.folder, competition, self.plan.rules, match)
+            self.assertEqual(found and found.goals, goals, text[:100])
         self.write(match)
         with mock.patch.object(match_files, "most_of_record", lambda rules, size: size - 3):
             self.assertIsNotNone(unverified_result(self.folder, competition, self.plan.rules, match))
@@ -425,9 +426,8 @@ class Files(InFolder):
     def test_a_pipe_in_the_place_of_a_file_is_named(self):
         os.mkfifo(self.folder / "pipe")
         for read in (file_bytes, sum_of_file):
-            with self.assertRaises(OSError) as why:
-                read(self.folder / "pipe")
-            self.assertEqual((why.exception.strerror, why.exception.filename), ("it is not a regular file", str(self.folder / "pipe")))
+            why = raised(OSError, read, self.folder / "pipe")
+            self.assertEqual((why.strerror, why.filename), ("it is not a regular file", str(self.folder / "pipe")))
 
     def test_the_shape_that_a_result_needs(self):
         good = {"goalValues": [1, 2], "errors": [["", "x"]], "moves": []}

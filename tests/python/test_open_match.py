@@ -19,6 +19,7 @@ from ggp_tools.competition.slots import Slots
 from ggp_tools.competition.started_players import StartedPlayers
 from ggp_tools.referee import Referee, Unchecked
 from live_support import plan_in, record_of
+from support import Reports
 
 
 def info_of(verdict, status=0, text="", **more):
@@ -49,22 +50,6 @@ class Judge(Referee):
         return [self.is_replayed] * len(accounts)
 
 
-class Said:
-    """A reporter that records its lines."""
-
-    def __init__(self):
-        self.lines, self.notes, self.begun = [], [], []
-
-    def line(self, text):
-        self.lines.append(text)
-
-    def note(self, text):
-        self.notes.append(text)
-
-    def begins(self, match, host=None):
-        self.begun.append((match.id, host))
-
-
 class WithMatch(unittest.TestCase):
     HEAD = "strikes = 0\ntries = 2\nwait = 7\n"
 
@@ -79,7 +64,7 @@ class WithMatch(unittest.TestCase):
         self.enterContext(mock.patch.object(open_match, "comparisons", self.hold))
         self.begin(self.HEAD)
 
-    async def run_process(self, words, given=b"", seconds=None):
+    async def run_process(self, words, seconds=None):
         name = "played" if words[1] == "run" else words[-1]
         self.begun.append((name, words, seconds))
         status, output, text, *more = self.laid_down[name]
@@ -101,7 +86,7 @@ class WithMatch(unittest.TestCase):
         self.plan = plan_in(str(self.folder), ["ann", "bob"], head=head)
         folder, competition = self.plan.folder, self.plan.competition
         folder.make(folder.accounts, folder.rules)
-        self.match, self.reporter, self.slots, self.referee = self.plan.matches[0], Said(), Slots(competition), Judge("program")
+        self.match, self.reporter, self.slots, self.referee = self.plan.matches[0], Reports(), Slots(competition), Judge("program")
         self.may_begin, self.left, self.begun = True, [], []
         players, news = StartedPlayers(folder, competition, None, self.reporter), types.SimpleNamespace(set=lambda: self.left.append(self.open.stage))
         playing = types.SimpleNamespace(

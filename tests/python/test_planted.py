@@ -10,9 +10,10 @@ import functools
 import json
 import random
 import shutil
-import unittest
 from collections.abc import Callable
 from unittest import mock
+
+import pytest
 
 from ggp_tools.holding.command import DIFFERENT, SAME, Holding
 from ggp_tools.instantiating import making, rounds
@@ -23,6 +24,7 @@ from ground_matches import Record, Sentences, begun, description, ended, instant
 PLANTED_IN = "tictactoe", "nim", "connectfour", "auction", "minority", "hanoi", "river", "prisoners", "foxandhounds", "hex"
 WITH_A_CYCLE = "hex"
 TRIES = 60
+pytestmark = pytest.mark.skipif(not shutil.which("gringo"), reason="gringo is not installed")
 # The last of these stones is ten steps from the side, and no path is shorter. Blue's stones are in cells that red does not use.
 WINDING = "11 21 22 23 24 25 35 44 43 42 51".split()
 Plant = Callable[[str, random.Random], Sentences]
@@ -114,32 +116,21 @@ def reached(name: str, plant: Plant) -> tuple[Record, Record]:
     raise AssertionError(f"{name}: no match reaches what {plant.__name__} plants")
 
 
-@unittest.skipUnless(shutil.which("gringo"), "gringo is not installed")
-class Planted(unittest.TestCase):
-    def assert_found(self, name: str, record: Record, right: Record) -> None:
-        """Checks that the error is found in the wrong record, and nothing in the right one."""
-        status, words = holding(name).held(json.dumps(record))
-        self.assertEqual((status, words.partition(":")[0]), (DIFFERENT, "differs"), words)
-        self.assertEqual(holding(name).held(json.dumps(right)), (SAME, f"the same: {counted(len(right['moves']), 'turn')}"))
+def assert_found(name: str, record: Record, right: Record) -> None:
+    """Checks that the error is found in the wrong record, and nothing in the right one."""
+    status, words = holding(name).held(json.dumps(record))
+    assert (status, words.partition(":")[0]) == (DIFFERENT, "differs"), (name, words)
+    assert holding(name).held(json.dumps(right)) == (SAME, f"the same: {counted(len(right['moves']), 'turn')}"), name
 
-    def assert_each_is_found(self, plant: Plant, names: tuple[str, ...] = PLANTED_IN) -> None:
-        for name in names:
-            with self.subTest(name):
-                self.assert_found(name, *reached(name, plant))
 
-    def test_a_dropped_rule(self):
-        self.assert_each_is_found(dropped)
+@pytest.mark.parametrize("plant", [dropped, swapped, goal_off, without_last_literal])
+def test_an_error_in_a_rule(plant: Plant) -> None:
+    for name in PLANTED_IN:
+        if (plant, name) != (without_last_literal, WITH_A_CYCLE):
+            assert_found(name, *reached(name, plant))
 
-    def test_moves_in_the_wrong_order(self):
-        self.assert_each_is_found(swapped)
 
-    def test_a_goal_off_by_one(self):
-        self.assert_each_is_found(goal_off)
-
-    def test_a_rule_without_its_last_literal(self):
-        self.assert_each_is_found(without_last_literal, tuple(name for name in PLANTED_IN if name != WITH_A_CYCLE))
-
-    def test_half_the_rounds_of_a_cycle(self):
-        record, right = wound(in_half_the_rounds(WITH_A_CYCLE)), wound(right_rules(WITH_A_CYCLE))
-        self.assertEqual((record["phase"], right["phase"], right["goalValues"]), ("playing", "finished", [100, 0]))
-        self.assert_found(WITH_A_CYCLE, record, right)
+def test_half_the_rounds_of_a_cycle() -> None:
+    record, right = wound(in_half_the_rounds(WITH_A_CYCLE)), wound(right_rules(WITH_A_CYCLE))
+    assert (record["phase"], right["phase"], right["goalValues"]) == ("playing", "finished", [100, 0])
+    assert_found(WITH_A_CYCLE, record, right)

@@ -10,7 +10,6 @@ import shutil
 import signal
 import subprocess
 import tempfile
-import time
 import unittest
 
 import pytest
@@ -18,7 +17,7 @@ import pytest
 from ggp_tools.competition.files import held
 from ggp_tools.competition.command import MOST_LINES
 from players import TestPlayer
-from support import GAMES, InFolder, command_of, program, program_but, run, run_into_full, start
+from support import GAMES, InFolder, command_of, program, program_but, run, run_into_full, start, wait_until
 
 COUNTDOWN = [("countdown", GAMES / "countdown.kif")]
 HEAD = "start = 5\nplay = 5\nstrikes = 1\nwait = 1\ninfo = 5\ntries = 2\n"
@@ -146,20 +145,13 @@ class Play(InFolder):
         self.assertEqual(run(self.folder, "check", "cup.tar.gz")[0], 0)
         self.assert_sound(self.schedule)
 
-    def most_at_once(self, more, most):
-        """Plays among slow players that accept this many matches. Returns the maximum number of simultaneous matches of a player."""
-        self.planned(["slow"] * 3, more=more, most=most)
-        status, _, _ = run(self.folder, "play", "--at-once", "6")
-        self.assertEqual((status, [player.clashes for player in self.players]), (0, [[]] * 3))
-        return max(player.sat for player in self.players)
-
-    def test_a_player_sits_in_one_match_at_a_time(self):
-        self.assertEqual(self.most_at_once((), 1), 1)
-
-    def test_a_player_may_sit_in_several(self):
-        found = self.most_at_once(("concurrent = 3",), 3)
-        self.assertGreater(found, 1)
-        self.assertLessEqual(found, 3)
+    def test_a_player_plays_as_many_matches_at_once_as_it_can(self):
+        for more, most, least in (((), 1, 1), (("concurrent = 3",), 3, 2)):
+            self.planned(["slow"] * 3, more=more, most=most)
+            status, _, _ = run(self.folder, "play", "--at-once", "6")
+            self.assertEqual((status, [player.clashes for player in self.players]), (0, [[]] * 3))
+            self.assertIn(max(player.sat for player in self.players), range(least, most + 1))
+            shutil.rmtree(self.folder / "records")
 
     def test_more_matches_than_a_shell_lets_files_be_open(self):
         self.planned(["good"] * 4, more=("concurrent = 12",), most=12)
@@ -169,6 +161,19 @@ class Play(InFolder):
         words = "play", "--at-once", "12", "--program", program_but(self.folder / "waiting", '"$1" = run', together)
         self.assertEqual(run(self.folder, *words, **few)[::2], (0, ""))
         self.assert_sound(self.schedule)
+
+    def open_matches(self):
+        """Returns the matches that are being played, by the files that name their players."""
+        return list((self.folder / "open").glob("*/players"))
+
+    def killed(self):
+        """Kills `play` while a match of slow players is open."""
+        self.let_think(1)
+        playing = start(self.folder, "play")
+        wait_until(lambda: self.players[0].matches)
+        playing.kill()
+        playing.communicate()
+        self.let_think(0)
 
     def let_think(self, seconds):
         """Lets the players think this long before each move. Each player has at least two moves in a match."""
@@ -181,8 +186,7 @@ class Play(InFolder):
         self.let_think(1)
         # The tests themselves may run under nohup.
         playing = start(self.folder, "play", preexec_fn=lambda: signal.signal(signal.SIGHUP, signal.SIG_DFL))
-        while len(list((self.folder / "open").glob("*/players"))) < 2:
-            time.sleep(0.02)
+        wait_until(lambda: len(self.open_matches()) >= 2)
         out = ""
         for number in signals[:-1]:
             playing.send_signal(number)
@@ -204,13 +208,7 @@ class Play(InFolder):
 
     def test_a_run_after_a_killed_one_tells_at_once_for_whom_it_waits(self):
         self.planned(["slow", "slow"])
-        self.let_think(1)
-        playing = start(self.folder, "play")
-        while not self.players[0].matches:
-            time.sleep(0.02)
-        playing.kill()
-        playing.communicate()
-        self.let_think(0)
+        self.killed()
         # The error comes before any input is read and any message is sent.
         waiting = program_but(self.folder / "waiting", '"$1" = abort', "sleep 60")
         playing = start(self.folder, "play", "--program", waiting)
@@ -220,9 +218,6 @@ class Play(InFolder):
         playing.communicate()
         self.assertEqual(run(self.folder, "play")[0], 0)
 
-    def test_a_second_interrupt_ends_them_and_frees_the_players(self):
-        self.look_at_ended_ones(self.interrupted(signal.SIGINT, signal.SIGINT))
-
     def checking(self):
         """Plays a match. While the match is being checked, returns `play`, which has a separate process group, and the file that lets the check go
         on."""
@@ -230,8 +225,7 @@ class Play(InFolder):
         number, go = self.folder / "number", self.folder / "go"
         waiting = program_but(self.folder / "waiting", '"$1" = replay', f"echo $$ > {number}.new; mv {number}.new {number}; until [ -e {go} ]; do sleep 0.1; done")
         playing = start(self.folder, "play", "--program", waiting, start_new_session=True)
-        while not number.exists():
-            time.sleep(0.02)
+        wait_until(number.exists)
         return playing, int(number.read_text()), go
 
     def test_ctrl_c_at_the_terminal_does_not_end_a_check(self):
@@ -246,14 +240,7 @@ class Play(InFolder):
         playing, number, _ = self.checking()
         playing.kill()
         playing.communicate()
-        while command_of(number):
-            time.sleep(0.02)
-
-    def test_a_termination_ends_them_at_once(self):
-        self.look_at_ended_ones(self.interrupted(signal.SIGTERM))
-
-    def test_a_hang_up_ends_them_at_once(self):
-        self.look_at_ended_ones(self.interrupted(signal.SIGHUP))
+        wait_until(lambda: not command_of(number))
 
     def hung_up(self, *outputs):
         """Plays with these outputs on a terminal that closes while the first match is open, and ignores the hang-up. Returns the exit status and
@@ -263,8 +250,7 @@ class Play(InFolder):
         ignored = {"preexec_fn": lambda: signal.signal(signal.SIGHUP, signal.SIG_IGN)}
         playing = start(self.folder, "play", **dict.fromkeys(outputs, theirs), **ignored)
         os.close(theirs)
-        while not list((self.folder / "open").glob("*/players")):
-            time.sleep(0.02)
+        wait_until(self.open_matches)
         os.close(ours)
         playing.send_signal(signal.SIGHUP)
         out, _ = playing.communicate(timeout=600)
@@ -281,7 +267,9 @@ class Play(InFolder):
         self.assertEqual((status, out), (1, None))
         self.assertIn(len(self.records()), range(1, 6))
 
-    def look_at_ended_ones(self, out):
+    def assert_ended(self, *signals):
+        """Checks that these signals end the open matches, and that their players are free."""
+        out = self.interrupted(*signals)
         ended = [line.split()[1].rstrip(":") for line in lines(out, "abort")]
         self.assertGreaterEqual(len(ended), 2)
         self.assertEqual(sorted(match for player in self.players for match in player.aborted), sorted(2 * ended))
@@ -292,6 +280,15 @@ class Play(InFolder):
         self.assertEqual(run(self.folder, "play")[0], 0)
         self.assertEqual([player.clashes for player in self.players], [[]] * 4)
         self.assert_sound(self.schedule)
+
+    def test_a_second_interrupt_ends_open_matches(self):
+        self.assert_ended(signal.SIGINT, signal.SIGINT)
+
+    def test_a_termination_ends_open_matches(self):
+        self.assert_ended(signal.SIGTERM)
+
+    def test_a_hang_up_ends_open_matches(self):
+        self.assert_ended(signal.SIGHUP)
 
     def at_play(self):
         """Returns how many processes play matches of this directory."""
@@ -307,32 +304,23 @@ class Play(InFolder):
         self.planned(["slow"] * 4, head="start = 600\nplay = 600\n")
         self.let_think(600)
         playing = start(self.folder, "play")
-        while not self.at_play():
-            time.sleep(0.01)
+        wait_until(self.at_play)
         playing.kill()
         playing.communicate()
         # A match takes longer than a test may take.
-        while self.at_play():
-            time.sleep(0.01)
+        wait_until(lambda: not self.at_play())
 
     def test_an_abort_without_an_answer_is_due_until_it_is_answered(self):
         self.planned(["slow", "slow"], head=HEAD.replace("tries = 2", "tries = 1"), form='kind = "schedule"\nlines = ["countdown p0 p1"]')
         away, players = self.players[0], self.folder / "open/cup-001/players"
-        self.let_think(1)
-        playing = start(self.folder, "play")
-        while not away.matches:
-            time.sleep(0.02)
-        playing.kill()
-        playing.communicate()
-        self.let_think(0)
+        self.killed()
         away.go_away()
         unanswered = [f"no answer to abort cup-001: p0@{away.place()}"]
         status, out, _ = run(self.folder, "play")
         self.assertEqual((status, lines(out, "no answer"), players.exists()), (1, unanswered, True), out)
         for number in (signal.SIGTERM, signal.SIGINT):
             playing = start(self.folder, "play", "--program", program_but(self.folder / "slow", '"$1" = info', "sleep 60"))
-            while not (self.folder / "open/cup-001/asking").exists() or playing.stdout.readline() != f"{unanswered[0]}\n":
-                time.sleep(0.02)
+            wait_until(lambda: (self.folder / "open/cup-001/asking").exists() and playing.stdout.readline() == f"{unanswered[0]}\n")
             playing.send_signal(number)
             out, _ = playing.communicate(timeout=600)
             self.assertEqual((playing.returncode, players.exists()), (1, True), out)
@@ -352,28 +340,17 @@ class Play(InFolder):
         self.assertEqual(run(self.folder, "play")[0], 0)
         self.assert_sound(self.schedule)
 
-    def held_up(self):
-        """Plays until a match is open, which continues once the file `go` exists."""
+    def test_while_matches_are_played_no_other_run_plays_or_plans(self):
         self.planned(["slow", "slow"])
+        # The match goes on once the file `go` exists.
         waiting = program_but(self.folder / "waiting", '"$1" = run', f"until [ -e {self.folder}/go ]; do sleep 0.05; done")
         playing = start(self.folder, "play", "--program", waiting)
-        while not list((self.folder / "open").glob("*/players")):
-            time.sleep(0.02)
-        return playing
-
-    def test_two_runs_in_one_folder(self):
-        playing = self.held_up()
-        self.assertEqual(run(self.folder, "play"), (2, "", "ggp_competition: .: another command is planning, playing or publishing this competition\n"))
-        (self.folder / "go").touch()
-        playing.communicate(timeout=600)
-        self.assertEqual(playing.returncode, 0)
-
-    def test_no_plan_is_made_while_matches_are_played(self):
-        playing = self.held_up()
+        wait_until(self.open_matches)
         file, before = self.folder / "competition.toml", (self.folder / "schedule.tsv").read_bytes()
         text = file.read_text()
         file.write_text(text.replace("play = 5", "play = 6"))
-        self.assertEqual(run(self.folder, "plan"), (2, "", "ggp_competition: .: another command is planning, playing or publishing this competition\n"))
+        for command in ("play", "plan"):
+            self.assertEqual(run(self.folder, command), (2, "", "ggp_competition: .: another command is planning, playing or publishing this competition\n"))
         file.write_text(text)
         (self.folder / "go").touch()
         playing.communicate(timeout=600)
@@ -491,16 +468,6 @@ class Play(InFolder):
         self.assertTrue((self.folder / "records/cup-001.json.unchecked.2").exists())
         self.assert_sound(self.schedule)
 
-    def test_plan_does_not_change_what_was_played(self):
-        self.planned(["good", "good"])
-        run(self.folder, "play")
-        self.assertEqual(run(self.folder, "plan")[0], 0)
-        file = self.folder / "competition.toml"
-        file.write_text(file.read_text().replace("play = 5", "play = 6"))
-        status, _, said = run(self.folder, "plan")
-        self.assertEqual(status, 2)
-        self.assertIn("the clocks of countdown were 5 and 5, and are now 5 and 6: undo the change", said)
-
     @unittest.skipIf(os.geteuid(), "only root can mount a small disk")
     def test_a_full_disk_costs_the_open_matches_alone(self):
         self.planned(["good"] * 4)
@@ -564,28 +531,6 @@ class Play(InFolder):
             self.assertEqual((status, said), (1, f"ggp_competition: {name}: Is a directory\n"))
             self.assertTrue(out.startswith("cup: 2 of 2 matches\n"), out)
 
-    def test_what_is_no_room_of_a_match_is_left_alone(self):
-        self.planned(["good", "good"])
-        rooms = self.folder / "open"
-        rooms.mkdir()
-        (rooms / ".DS_Store").touch()
-        (rooms / "mine").mkdir()
-        (rooms / "mine/notes").touch()
-        (rooms / "link").symlink_to(self.folder)
-        (rooms / "cup-001").mkdir()
-        words = b"hello", b"p0@127.0.0.1", b"p0@127.0.0.1:65536", b"p0@127.0.0.1:1 and more", b"\xff", b""
-        for at, word in enumerate(words):
-            (rooms / f"foo-{at}").mkdir()
-            (rooms / f"foo-{at}/players").write_bytes(word)
-        (rooms / "cup-002").mkdir()
-        (rooms / "cup-002/players").write_bytes(words[0])
-        (rooms / "old-001").mkdir()
-        (rooms / "old-001/players").write_text(f"p0@{self.players[0].place()}\n")
-        status, out, said = run(self.folder, "play")
-        self.assertEqual((status, said, lines(out, "abort")), (0, "", [f"abort old-001: p0@{self.players[0].place()}"]), out)
-        self.assertEqual(sorted(file.name for file in rooms.iterdir()), [".DS_Store", *(f"foo-{number}" for number in range(6)), "link", "mine"])
-        self.assertTrue((rooms / "mine/notes").exists() and (self.folder / "schedule.tsv").exists())
-
     def test_a_match_without_its_log_counts(self):
         self.planned(["good", "good"])
         run(self.folder, "play")
@@ -625,8 +570,7 @@ class Play(InFolder):
         self.planned(["slow"] * 4)
         playing = start(self.folder, "play", "--watch", "--at-once", "1")
         first = self.folder / "pages/index.html"
-        while playing.poll() is None and not (first.exists() and list((self.folder / "open").glob("*/players"))):
-            time.sleep(0.02)
+        wait_until(lambda: playing.poll() is not None or first.exists() and self.open_matches())
         self.assertRegex(first.read_text(), r"\b([1-9]|1[01]) of 12 matches are over")
         out, said = playing.communicate(timeout=600)
         self.assertEqual((playing.returncode, said, lines(out, "pages")), (0, "", []))

@@ -11,7 +11,6 @@ import resource
 import signal
 import tempfile
 import threading
-import types
 import unittest
 from unittest import mock
 
@@ -23,33 +22,7 @@ from ggp_tools.competition.playing import Playing, open_directories, seconds_lef
 from ggp_tools.competition.slots import Slots
 from live_support import plan_in
 from planning import planned
-from support import toml
-
-
-class Said:
-    """A reporter that records its lines."""
-
-    def __init__(self):
-        self.lines, self.notes, self.ended, self.shown, self.drawn = [], [], [], [], []
-        self.fault, self.journal, self.is_shown = None, types.SimpleNamespace(fault=None), True
-
-    def line(self, text):
-        self.lines.append(text)
-
-    def note(self, text):
-        self.notes.append(text)
-
-    def ends(self, result, seconds):
-        self.ended.append((result, seconds))
-
-    def progress(self, over, open_count, to_come, left):
-        self.shown.append((over, open_count, to_come, left))
-
-    def draw(self, text):
-        self.drawn.append(text)
-
-    def clear(self):
-        self.drawn.append("")
+from support import Reports, raised, toml
 
 
 class Standing:
@@ -114,7 +87,7 @@ class WithMatches(unittest.TestCase):
     def begin(self, head="", launcher=None, at_once=99):
         self.plan = plan_in(str(self.folder), self.NAMES, head=head)
         self.plan.competition = dataclasses.replace(self.plan.competition, launcher=launcher)
-        self.reporter = Said()
+        self.reporter = Reports()
         self.playing = Playing(self.plan, "referee", self.reporter, at_once)
 
     def go(self, **laid_down):
@@ -368,16 +341,14 @@ class Before(WithMatches):
         records = self.plan.folder.records
         for name, more in (("x.json", ""), ("y.json", ", and 1 more")):
             (records / name).touch()
-            with self.assertRaises(Refused) as why:
-                playing.prepare(self.playing)
-            self.assertEqual(str(why.exception), f"{records}/x.json belongs to no match of the schedule{more}: move the files that belong to no match out of {records}, and play again")
+            why = raised(Refused, playing.prepare, self.playing)
+            self.assertEqual(str(why), f"{records}/x.json belongs to no match of the schedule{more}: move the files that belong to no match out of {records}, and play again")
         for file in records.iterdir():
             file.unlink()
         self.looked = ({}, {"cup-002": "not lawful: goals"}, {"cup-001": "its matchId is 'x'"})
         self.plan.folder.record("cup-002").touch()
-        with self.assertRaises(Refused) as why:
-            playing.prepare(self.playing)
-        self.assertEqual(str(why.exception), f"{records}/cup-001.json is lawful, but belongs to another match: its matchId is 'x'")
+        why = raised(Refused, playing.prepare, self.playing)
+        self.assertEqual(str(why), f"{records}/cup-001.json is lawful, but belongs to another match: its matchId is 'x'")
         # Until this is corrected, no file is renamed.
         self.assertEqual([file.name for file in records.iterdir()], ["cup-002.json"])
 
@@ -390,9 +361,7 @@ class Before(WithMatches):
         self.plan.matches[0] = dataclasses.replace(self.plan.matches[0], round=1)
         self.plan.rounds = ["the first", "the second"]
         self.looked = ({match.id: "its result" for match in self.plan.matches[3:]}, {"cup-001": "not lawful: goals"}, {})
-        with self.assertRaises(Refused) as why:
-            playing.prepare(self.playing)
-        self.assertIn("a later round was paired by the result of cup-001, which no longer has a record that counts", str(why.exception))
+        self.assertIn("a later round was paired by the result of cup-001, which no longer has a record that counts", str(raised(Refused, playing.prepare, self.playing)))
         # Until this is corrected, no file is renamed, no message is sent, and no match waits.
         self.assertEqual([file.name for kind in (folder.records, folder.accounts) for file in kind.iterdir()], ["cup-001.json", "cup-002.txt"])
         self.assertEqual((room.exists(), self.aborted, list(self.playing.waiting)), (True, [], []))
@@ -420,7 +389,8 @@ class Before(WithMatches):
         self.room("b", "ann@h:1")
         self.room("a", "ann@h:1 bob@h:2\n")
         self.room("c", "ann\n")
-        (self.room("d") / "players").write_bytes(b"\xff@h:1")
+        for name, data in (("d", b"\xff@h:1"), ("e", b"ann@h"), ("f", b"ann@h:65536"), ("g", b"ann@h:1 and more")):
+            (self.room(name) / "players").write_bytes(data)
         found = {room.name: places for room, places in open_directories(self.plan).items()}
         self.assertEqual(found, {"a": ["ann@h:1", "bob@h:2"], "b": ["ann@h:1"], "cup-001": []})
 

@@ -69,35 +69,9 @@ class Standings(unittest.TestCase):
             forfeits += sum(bool(result.forfeits()) for result in results)
             retired += sum(any(result.retirements) for result in results)
         self.assertGreater(min(forfeits, retired - forfeits), 200)
-        print(f"{MANY} competitions recounted, {forfeits} matches decided by forfeit", flush=True)
 
 
 class Schedules(unittest.TestCase):
-    def test_round_robins_are_balanced(self):
-        chance = random.Random(12)
-        for _ in range(MANY):
-            game, rounds = chance.choice(sorted(ROLES)), chance.randrange(1, 4)
-            count = chance.randrange(ROLES[game], 9) if ROLES[game] > 1 else chance.randrange(1, 9)
-            found = [match.players for match in planned(competition(count, [game], f'kind = "round_robin"\nrounds = {rounds}'), ROLES)]
-            names = [f"p{at}" for at in range(count)]
-            if ROLES[game] < 3:
-                self.assertEqual(Counter(found), Counter(list(permutations(names, ROLES[game])) * rounds))
-            for seat in range(ROLES[game]):
-                self.assertEqual(len(set(Counter(players[seat] for players in found).values())), 1)
-                self.assertEqual({players[seat] for players in found}, set(names))
-            self.assertTrue(all(len(set(players)) == len(players) for players in found))
-
-    def test_gauntlets_are_balanced(self):
-        chance = random.Random(16)
-        for _ in range(MANY):
-            count, rounds = chance.randrange(2, 9), chance.randrange(1, 4)
-            one = f"p{chance.randrange(count)}"
-            found = planned(competition(count, ["duel", "solo"], f'kind = "gauntlet"\none = "{one}"\nrounds = {rounds}'), ROLES)
-            others = [f"p{at}" for at in range(count) if f"p{at}" != one]
-            duels = [pair for other in others for pair in ((one, other), (other, one))] * rounds
-            self.assertEqual(Counter(match.players for match in found if match.game == "duel"), Counter(duels))
-            self.assertEqual(Counter(match.players for match in found if match.game == "solo"), Counter([(f"p{at}",) for at in range(count)] * rounds))
-
     def test_what_grows_keeps_what_was_planned(self):
         chance = random.Random(13)
         for _ in range(MANY):
@@ -152,7 +126,7 @@ class Rounds(unittest.TestCase):
         self.assertEqual(Counter(new), Counter((game, seats) for game in games for pair in pairs for seats in (pair, pair[::-1])))
 
     def test_swiss_rounds_and_standings(self):
-        chance, again, met = random.Random(14), 0, 0
+        chance, again = random.Random(14), 0
         for _ in range(MANY):
             count, rounds, games = chance.randrange(2, 12), chance.randrange(1, 6), chance.sample(["duel", "pair"], chance.randrange(1, 3))
             strikes, forfeit = chance.choice((0, 1, 2)), chance.choice((False, True))
@@ -168,12 +142,10 @@ class Rounds(unittest.TestCase):
             meetings = Counter(frozenset(pair) for pairs, _ in said for pair in pairs)
             # With enough players no pairing is repeated.
             again += sum(times > 1 for times in meetings.values()) if count >= 2 * rounds + 2 else 0
-            met += len(meetings)
             byes = Counter(bye for _, bye in said if bye)
             self.assertEqual(sum(byes.values()), rounds * (count % 2))
             self.assertLessEqual(max(byes.values(), default=0) - (min(byes[name] for name in names) if byes else 0), 1)
         self.assertEqual(again, 0)
-        print(f"{MANY} Swiss competitions, {met} meetings", flush=True)
 
     def test_knockouts(self):
         chance = random.Random(15)

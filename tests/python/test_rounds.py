@@ -8,7 +8,7 @@ import unittest
 from collections import Counter
 from unittest import mock
 
-from ggp_tools.competition.competition_file import Mistaken, read_competition
+from ggp_tools.competition.competition_file import read_competition
 from ggp_tools.competition.files import Folder, Refused
 from ggp_tools.competition.growth import Again
 from ggp_tools.competition.history import again_text
@@ -17,11 +17,11 @@ from ggp_tools.competition.pages import Site
 from ggp_tools.competition.plan import grows, make_plan, order_again, plan_next_round, read_plan, refuse_lost_results, round_words, rounds_left, sums_text
 from ggp_tools.competition.round_pages import count_of_all, round_text, rounds_part, rounds_words
 from ggp_tools.competition.rounds import Round, bracket, matches_to_come, paired, rounds_of
-from ggp_tools.competition.schedule import Match, asked
+from ggp_tools.competition.schedule import Match
 from ggp_tools.competition.table import tables_of
 from ggp_tools.competition.table_text import notes, standings_rows, table_files
 from html_pages import parsed, rows_of
-from support import stand_in, toml
+from support import raised, stand_in, toml
 
 REFEREE = stand_in(
     path="none", roles=lambda *_: ("a", "b"), replays=lambda _, accounts, records: [True] * len(records),
@@ -69,9 +69,7 @@ class ByRounds(unittest.TestCase):
         return [(found.pairs, found.byes) for found in plan.rounds]
 
     def assert_refused(self, words, call=None):
-        with self.assertRaises(Refused) as why:
-            (call or self.read)()
-        self.assertIn(words, str(why.exception))
+        self.assertIn(words, str(raised(Refused, call or self.read)))
 
     def test_a_swiss_competition_from_its_first_round_to_its_table(self):
         self.write(5, SWISS.format(3))
@@ -80,7 +78,7 @@ class ByRounds(unittest.TestCase):
         self.assertEqual([match.players for match in plan.matches], [("p0", "p1"), ("p2", "p3"), ("p1", "p0"), ("p3", "p2")])
         self.assertEqual((rounds_left(plan), plan_next_round(plan, {})), (2, []))
         results = self.play(plan)
-        new = plan_next_round(plan, results)
+        plan_next_round(plan, results)
         # p0, p2 and p4 have two points; the bye has no opponent whose points would count.
         self.assertEqual(round_words(plan), "round 2 of 3: cup-005 to cup-008; bye: p3")
         self.assertEqual(self.pairs(plan)[1], ((("p0", "p2"), ("p4", "p1")), ("p3",)))
@@ -374,32 +372,8 @@ class ByRounds(unittest.TestCase):
             file.unlink()
         self.assertFalse(ids & {match.id for match in self.make().matches})
 
-    def test_what_stands_in_a_file_may_be_anything(self):
-        self.write(2, SWISS.format(2))
-        plan = self.make()
-        match, good = plan.matches[0], record(plan.matches[0], [100, 0])
-        for wrong in (
-            [], 7, None, {**good, "goalValues": ["a", "b"]}, {**good, "goalValues": [1]}, {**good, "goalValues": 3}, {**good, "errors": [["", 1]]}, {**good, "errors": [[""]]},
-            {**good, "errors": None}, {**good, "moves": 1}, {**good, "goalValues": [True, False]}, {**good, "matchId": "cup-002"}, {key: good[key] for key in good if key != "phase"},
-        ):
-            self.folder.record(match.id).write_text(json.dumps(wrong))
-            self.assertIsNone(unverified_result(self.folder, plan.competition, plan.rules, match), wrong)
-            self.assertEqual(len(self.read().matches), 2)
-        for wrong in ("", "{", "[" * 100_000):
-            self.folder.record(match.id).write_text(wrong)
-            self.assertIsNone(unverified_result(self.folder, plan.competition, plan.rules, match))
-        self.folder.record(match.id).write_text(json.dumps({key: good[key] for key in good if key != "cause"}))
-        self.assertEqual(unverified_result(self.folder, plan.competition, plan.rules, match).goals, (100, 0))
-
 
 class Refusals(unittest.TestCase):
-    def test_games_of_other_numbers_of_roles(self):
-        found = read_competition(toml([("ann", "h:1"), ("bob", "h:2"), ("cid", "h:3")], [("one", "f"), ("two", "f"), ("three", "f")], 'kind = "knockout"').encode())
-        with self.assertRaises(Mistaken) as why:
-            asked(found, {"one": 1, "two": 2, "three": 3})
-        words = ["the kind knockout is for games of two roles, but one has 1", "the kind knockout is for games of two roles, but three has 3"]
-        self.assertEqual([(mistake.line, mistake.words) for mistake in why.exception.mistakes], [(4, words[0]), (10, words[1])])
-
     def test_a_bracket_has_each_seed_once(self):
         for count in range(1, 70):
             seeds = bracket(count)
@@ -437,7 +411,7 @@ class Refusals(unittest.TestCase):
         first, other = "0" * 64, "1" * 64
         old, more, changed = sums_text({"a.kif": first}), sums_text({"a.kif": first, "b.kif": other}), sums_text({"a.kif": other, "b.kif": other})
         folder = Folder("cup")
-        for file in (folder.rule_sums(), folder.description_sums()):
+        for file in (folder.rule_sums, folder.description_sums):
             self.assertEqual([grows(folder, file, old, new) for new in (old, more, changed, b"", b"x")], [True, True, False, False, False])
             self.assertEqual([grows(folder, file, spoilt, more) for spoilt in (b"", b"x", old * 2)], [False] * 3)
 

@@ -10,7 +10,7 @@ from ggp_tools.competition.command import counts_of_game
 from ggp_tools.competition.competition_file import Mistaken, read_competition
 from ggp_tools.competition.schedule import MOST_MATCHES, circle_steps, refuse_too_many, schedule_text
 from planning import planned
-from support import toml
+from support import raised, toml
 
 
 def matches(count, roles, form='kind = "round_robin"', games=1):
@@ -48,7 +48,6 @@ class Schedule(unittest.TestCase):
                     self.assertEqual(list(circle_steps(count, roles, rounds)), plain_steps(count, roles, rounds), (count, roles, rounds))
 
     def test_each_player_in_each_seat_equally_often(self):
-        widest = 0
         for roles in range(1, 17):
             for count in range(roles, 25):
                 for rounds in (1, 2):
@@ -57,12 +56,11 @@ class Schedule(unittest.TestCase):
                     by_seat = seats(found)
                     self.assertEqual(len(by_seat), count * roles)
                     self.assertEqual(len(set(by_seat.values())), 1, (roles, count))
-                    met = meetings(found)
                     if roles > 1:
-                        self.assertEqual(len(met), count * (count - 1) // 2, (roles, count))
-                        least, most = min(met.values()), max(met.values())
-                        widest = max(widest, (most - least) / (sum(met.values()) / len(met)))
-        print(f"schedules: how often two players meet differs by at most {widest:.2f} of the mean", flush=True)
+                        self.assertEqual(len(meetings(found)), count * (count - 1) // 2, (roles, count))
+                    if roles < 3:
+                        pairings = [*itertools.permutations([f"p{number}" for number in range(count)], roles)] * rounds
+                        self.assertEqual(Counter(match.players for match in found), Counter(pairings))
 
     def test_meetings_are_as_even_as_the_number_of_matches_lets_them_be(self):
         for roles in range(3, 9):
@@ -86,9 +84,8 @@ class Schedule(unittest.TestCase):
 
     def test_the_limit_of_matches(self):
         self.assertEqual(len(matches(1_000, 1, 'kind = "round_robin"\nrounds = 100')), MOST_MATCHES)
-        with self.assertRaises(Mistaken) as why:
-            matches(317, 2)
-        self.assertEqual([(mistake.line, mistake.key, mistake.words) for mistake in why.exception.mistakes], [(2, "form", "there are more than 100,000 matches")])
+        why = raised(Mistaken, matches, 317, 2)
+        self.assertEqual([(mistake.line, mistake.key, mistake.words) for mistake in why.mistakes], [(2, "form", "there are more than 100,000 matches")])
 
     def test_just_as_many_matches_as_the_limit_are_taken(self):
         found = read_competition(toml([("ann", "h:1"), ("bob", "h:2")], [("game", "f")]).encode())
@@ -145,18 +142,14 @@ class Schedule(unittest.TestCase):
             self.assertEqual((found[0].id, found[-1].id, len(found)), (first, last, count))
 
     def test_numbers_that_do_not_fit(self):
-        with self.assertRaises(Mistaken) as why:
-            matches(2, 3, games=2)
-        self.assertEqual([(mistake.key, mistake.words) for mistake in why.exception.mistakes],
+        self.assertEqual([(mistake.key, mistake.words) for mistake in raised(Mistaken, matches, 2, 3, games=2).mistakes],
                          [("games.file", "g0 has 3 roles, but the competition has 2 players"), ("games.file", "g1 has 3 roles, but the competition has 2 players")])
-        with self.assertRaises(Mistaken) as why:
-            matches(3, 2, 'kind = "schedule"\nlines = ["g0 p1 p2",\n"g0 p1"]')
-        self.assertEqual([(mistake.line, mistake.words) for mistake in why.exception.mistakes], [(5, "g0 has 2 roles, but the line names 1 player")])
+        why = raised(Mistaken, matches, 3, 2, 'kind = "schedule"\nlines = ["g0 p1 p2",\n"g0 p1"]')
+        self.assertEqual([(mistake.line, mistake.words) for mistake in why.mistakes], [(5, "g0 has 2 roles, but the line names 1 player")])
         with self.assertRaises(Mistaken):
             matches(1000, 2)
         for kind in ("swiss\"\nrounds = 1", "knockout\""):
             for roles in (1, 3):
-                with self.assertRaises(Mistaken) as why:
-                    matches(4, roles, f'kind = "{kind}')
+                why = raised(Mistaken, matches, 4, roles, f'kind = "{kind}')
                 words = f"the kind {kind.partition(chr(34))[0]} is for games of two roles, but g0 has {roles}"
-                self.assertEqual([(mistake.key, mistake.words) for mistake in why.exception.mistakes], [("games.file", words)])
+                self.assertEqual([(mistake.key, mistake.words) for mistake in why.mistakes], [("games.file", words)])

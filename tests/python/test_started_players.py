@@ -9,7 +9,6 @@ import signal
 import socket
 import subprocess
 import sys
-import time
 import types
 import unittest
 
@@ -17,17 +16,12 @@ import pytest
 from ggp_tools.competition import children, job, jobs, started_players
 from ggp_tools.competition.competition_file import Command, Player
 from ggp_tools.competition.files import Folder
-from ggp_tools.competition.started_players import PlayerLog, StartedPlayer, StartedPlayers
+from ggp_tools.competition.started_players import PlayerLog, StartedPlayer, StartedPlayers, mistakes_of_programs
 from ggp_tools.moments import MOMENT
-from support import GAMES, TOP, InFolder, command_of, program, program_but, run, start, toml
+from support import GAMES, TOP, InFolder, Reports, command_of, program, program_but, run, script, start, toml, wait_until
 
-ANSWERS, SILENT = ["true"], ["false"]
-
-
-class Said:
-    def __init__(self):
-        self.lines, self.notes = [], []
-        self.line, self.note = self.lines.append, self.notes.append
+# Whether a player answers INFO: always, never, or once it has printed something.
+ANSWERS, SILENT, PRINTED = ["true"], ["false"], ["printed"]
 
 
 def command(script, **more):
@@ -40,8 +34,9 @@ def player(room, script, info=ANSWERS, **more):
     """Returns a player with a script, and a fake `info` command that reports whether the player answers."""
     folder = Folder(room)
     folder.make(folder.players)
-    referee = types.SimpleNamespace(info_words=lambda place: info)
-    return StartedPlayer(folder, Player("ann", "", 1, 1, command(script, **more)), 0, referee, Said())
+    words = ["test", "-s", str(folder.players / "ann.log")] if info is PRINTED else info
+    referee = types.SimpleNamespace(info_words=lambda place: words)
+    return StartedPlayer(folder, Player("ann", "", 1, 1, command(script, **more)), 0, referee, Reports())
 
 
 def is_alive(process):
@@ -70,7 +65,7 @@ def run_for(*players_and_matches):
 
 def test_a_player_gets_its_port_its_directory_and_its_environment(tmp_path):
     (tmp_path / "inside").mkdir()
-    ann = player(tmp_path, "echo {port} $X $(pwd) >&2; exec sleep 600", environment=(("X", "at {port}"),), directory="inside")
+    ann = player(tmp_path, "echo {port} $X $(pwd) >&2; exec sleep 600", PRINTED, environment=(("X", "at {port}"),), directory="inside")
     process, = run_for(ann, "cup-001")
     said = (tmp_path / "players/ann.log").read_text()
     assert said == f"{ann.port} at {ann.port} {tmp_path}/inside\n"
@@ -80,18 +75,15 @@ def test_a_player_gets_its_port_its_directory_and_its_environment(tmp_path):
 
 def test_it_is_limited(tmp_path):
     script = "import os, resource; print(resource.getrlimit(resource.RLIMIT_DATA), len(os.sched_getaffinity(0)), flush=True); os.execvp('sleep', ['sleep', '600'])"
-    ann = player(tmp_path, "", words=(sys.executable, "-c", script), memory=1 << 30, processors=1)
-    # The player answers INFO once it has printed this.
-    ann.referee.info_words = lambda place: ["test", "-s", str(ann.log.path)]
+    ann = player(tmp_path, "", PRINTED, words=(sys.executable, "-c", script), memory=1 << 30, processors=1)
     run_for(ann, "cup-001")
     assert (tmp_path / "players/ann.log").read_text() == f"({1 << 30}, {1 << 30}) 1\n"
 
 
 def test_it_has_a_limited_number_of_open_files(tmp_path):
-    ann = player(tmp_path, "ulimit -n; ulimit -Hn; exec sleep 600")
-    ann.referee.info_words = lambda place: ["test", "-s", str(ann.log.path)]
+    ann = player(tmp_path, "echo $(ulimit -n) $(ulimit -Hn); exec sleep 600", PRINTED)
     run_for(ann, "cup-001")
-    assert ann.log.path.read_text() == "1024\n1024\n"
+    assert ann.log.path.read_text() == "1024 1024\n"
 
 
 def test_different_players_get_different_processors(monkeypatch):
@@ -228,7 +220,7 @@ def test_only_players_with_a_command_are_started(tmp_path):
     folder.make(folder.players)
     competition = types.SimpleNamespace(players=[Player("ann", "", 1, 1, command("exec sleep 600")), Player("bob", "h:1", 1, 1)])
     competition.player = lambda name: next(player for player in competition.players if player.name == name)
-    reporter = Said()
+    reporter = Reports()
 
     async def play():
         players = StartedPlayers(folder, competition, types.SimpleNamespace(info_words=lambda place: ANSWERS), reporter)
@@ -271,8 +263,7 @@ def test_a_player_ends_with_play_with_all_that_it_has_started():
     with subprocess.Popen([sys.executable, "-c", PLAYING, TOP / "python"], stdout=subprocess.PIPE, text=True) as playing:
         processes = [int(playing.stdout.readline()) for _ in range(3)]
         playing.kill()
-    while any(map(is_alive, processes)):
-        time.sleep(0.01)
+    wait_until(lambda: not any(map(is_alive, processes)))
 
 
 def test_a_player_that_forks_without_end_is_ended(tmp_path):
@@ -284,17 +275,15 @@ def test_a_player_that_forks_without_end_is_ended(tmp_path):
 
 # ---- launchers
 
-def launched(room, script, launcher):
+def launched(room, words, launcher, program=None, info=ANSWERS):
     """Returns a player with a launcher, which is a script on this computer."""
-    path = room / "launch"
-    path.write_text(f"#!/bin/bash\n{launcher}\n")
-    path.chmod(0o755)
-    return player(room, script, launcher=(str(path), "{player}"))
+    path = script(room / "launch", f"#!/bin/bash\n{launcher}\n")
+    return player(room, words, info, launcher=(program or str(path), "{player}"))
 
 
 def test_a_launcher_runs_the_player_and_reports_where(tmp_path, monkeypatch):
     monkeypatch.setenv("SLURMD_NODENAME", "n7")
-    ann = launched(tmp_path, "echo {port} $X >&2; exec sleep 600", 'echo for $1 > launched; shift; exec "$@"')
+    ann = launched(tmp_path, "echo {port} $X >&2; exec sleep 600", 'echo for $1 > launched; shift; exec "$@"', info=PRINTED)
     monkeypatch.chdir(tmp_path)
 
     async def play():
@@ -307,6 +296,19 @@ def test_a_launcher_runs_the_player_and_reports_where(tmp_path, monkeypatch):
     assert (place, (tmp_path / "launched").read_text()) == (f"ann@{socket.gethostname()}:{ann.port}", "for ann\n")
     assert ann.reporter.notes == [f"start cup-001 ann: process {process}, port {ann.port} on n7"]
     assert ((tmp_path / "players/ann.log").read_text(), is_alive(process)) == (f"{ann.port}\n", False)
+
+
+def test_a_launcher_with_a_slash_is_in_the_directory_of_the_competition(tmp_path, monkeypatch):
+    (tmp_path / "bin-ann").mkdir()
+    ann = launched(tmp_path / "bin-ann", "exec sleep 600", 'shift; exec "$@"', "bin-{player}/launch")
+    ann.folder = Folder(tmp_path)
+    competition = types.SimpleNamespace(players=[Player("ann", "", 1, 1, ann.command)])
+    monkeypatch.chdir("/")
+    assert list(mistakes_of_programs(ann.folder, competition)) == []
+    assert run_for(ann, "cup-001") != [None], ann.reporter.lines
+    monkeypatch.chdir(tmp_path / "bin-ann")
+    (tmp_path / "bin-ann").rename(tmp_path / "bin")
+    assert [mistake.key for mistake in mistakes_of_programs(ann.folder, competition)] == ["players.launcher"]
 
 
 def test_a_launcher_that_fails_is_reported(tmp_path):
@@ -330,9 +332,8 @@ def test_a_launched_player_whose_node_is_lost_is_reported(tmp_path, monkeypatch)
 # ---- memory
 
 def test_the_memory_of_all_processes_is_bounded_where_systemd_takes_it(tmp_path, monkeypatch):
-    systemd = tmp_path / "systemd-run"
-    systemd.write_text(f'#!/bin/bash\necho "$*" >> {tmp_path}/asked\nuntil [ "$1" = -- ]; do shift; done\nshift\nexec "$@"\n')
-    systemd.chmod(0o755)
+    text = f'#!/bin/bash\necho "$*" >> {tmp_path}/asked\nuntil [ "$1" = -- ]; do shift; done\nshift\nexec "$@"\n'
+    systemd = script(tmp_path / "systemd-run", text)
     monkeypatch.setenv("PATH", f"{tmp_path}:{os.environ['PATH']}")
     asked, started = tmp_path / "asked", player(tmp_path, "echo up; exec sleep 600", memory=1 << 30)
 
@@ -479,8 +480,7 @@ class Started(InFolder):
     def test_after_a_kill_they_end_too(self):
         schedule = self.planned()
         _, processes = self.ended(signal.SIGKILL)
-        while any(map(is_alive, processes)):
-            time.sleep(0.01)
+        wait_until(lambda: not any(map(is_alive, processes)))
         status, out, _ = run(self.folder, "play")
         self.assertEqual((status, [line for line in out.splitlines() if "abort" in line]), (0, []), out)
         self.assertEqual([process for process in (*processes, *self.processes()) if is_alive(process)], [])
@@ -519,9 +519,7 @@ class Started(InFolder):
 
     @unittest.skipUnless(os.geteuid() == 0, "only root can run a player as another user")
     def test_a_player_of_another_user_reads_and_ends_nothing(self):
-        thief, python = self.folder / "thief.py", self.folder / "python"
-        thief.write_text(THIEF)
-        thief.chmod(0o755)
+        thief, python = script(self.folder / "thief.py", THIEF), self.folder / "python"
         # The other user can read this directory, but not the directory of the repository or that of open matches.
         self.folder.chmod(0o755)
         shutil.copytree(TOP / "python", python, ignore=shutil.ignore_patterns("__pycache__"))

@@ -5,6 +5,7 @@ import tomllib
 import unittest
 
 from ggp_tools.competition.toml_lines import TomlFault, read_toml
+from support import raised
 
 TEXT = """# A competition with a [table] in a comment.
 name = "cup"   # its "name
@@ -94,9 +95,8 @@ class TomlLines(unittest.TestCase):
     def test_a_fault_has_its_line(self):
         for text, line, key in REFUSED:
             with self.subTest(text[:40]):
-                with self.assertRaises(TomlFault) as found:
-                    read_toml(text)
-                self.assertEqual((found.exception.line, found.exception.key), (line, key))
+                found = raised(TomlFault, read_toml, text)
+                self.assertEqual((found.line, found.key), (line, key))
 
     def test_each_text_has_lines_or_a_fault(self):
         chance, taken = random.Random(48), 0

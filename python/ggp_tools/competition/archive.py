@@ -77,21 +77,13 @@ def line_of(plan: Plan, result: Result, sums: Mapping[str, str | None]) -> str:
 
 
 def matches_text(plan: Plan, results: Sequence[Result]) -> bytes:
-    """Returns matches.jsonl."""
-    path = plan.folder.description_sums()
+    path = plan.folder.description_sums
     descriptions = sums_of(path) if path.is_file() else {}
     calls = []
     for result in results:
         game, record = result.match.game, record_sum(plan.read_record(result.match))
         calls.append((plan, result, {"record": record, "rules": plan.rules[game].sum, "description": descriptions.get(f"{game}.kif")}))
     return "".join(made_side_by_side(line_of, calls)).encode("ascii")
-
-
-def gaps_files(plan: Plan, results: Iterable[Result]) -> dict[str, bytes]:
-    """Returns the name and the contents of the file that lists the matches without a record. There is no such file if each round is planned and each
-    match has a record."""
-    missing = without_record(plan, results)
-    return {GAPS: schedule_text(missing)} if missing or rounds_left(plan) else {}
 
 
 def contents(plan: Plan, referee: Referee, results: list[Result], pages: Iterable[str]) -> Iterator[Content]:
@@ -101,7 +93,7 @@ def contents(plan: Plan, referee: Referee, results: list[Result], pages: Iterabl
     yield "schedule.tsv", folder.schedule
     for file in files_of_origin(plan):
         yield str(file.relative_to(folder.path)), file
-    for file in (folder.rule_sums(), folder.description_sums()):
+    for file in (folder.rule_sums, folder.description_sums):
         yield f"rules/{file.name}", file
     for game in plan.competition.games:
         for file in folder.rule_files(game):
@@ -114,7 +106,8 @@ def contents(plan: Plan, referee: Referee, results: list[Result], pages: Iterabl
     yield "matches.jsonl", matches_text(plan, results)
     if folder.journal.is_file():
         yield folder.journal.name, folder.journal
-    yield from gaps_files(plan, results).items()
+    if (missing := without_record(plan, results)) or rounds_left(plan):
+        yield GAPS, schedule_text(missing)
     yield from table_files(plan, tables_of(plan.competition, results, plan.rounds)).items()
     yield from ((f"pages/{name}", folder.pages / name) for name in sorted(pages))
     yield VERSION, f"{referee.version()}\n".encode("ascii")
@@ -263,7 +256,6 @@ def compared_matches(plan: Plan, results: list[Result], folder: pathlib.Path) ->
 
 
 def refuse(faults: Iterable[str]) -> None:
-    """Refuses an archive that has these errors, if there are any."""
     if lines := [fault.replace("\n", "?") for fault in faults]:
         raise Spoilt("\n".join(lines))
 

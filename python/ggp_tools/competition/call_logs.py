@@ -125,10 +125,6 @@ class Exchange(NamedTuple):
     answer: str | None
     error: str | None
 
-    def is_of(self, message: Message) -> bool:
-        """Returns whether an event of a match log agrees with this."""
-        return self == (message.kind, message.round, message.message, message.answer, message.error)
-
 
 def unescaped(text: bytes | None) -> str:
     """Returns a text of a call log, with a character for each byte."""
@@ -180,7 +176,8 @@ def is_confirmed(match: "Match", event: Event, asked: list[list[Exchange]], last
     if role >= len(asked) or event.player != match.players[role] or not last[role] < event.number <= len(asked[role]):
         return False
     last[role] = event.number
-    return asked[role][event.number - 1].is_of(event) and has_sound_reason(event)
+    said = event.kind, event.round, event.message, event.answer, event.error
+    return asked[role][event.number - 1] == said and has_sound_reason(event)
 
 
 def fault_of_run(match: "Match", roles: Sequence[str], run: Sequence[Event], account: bytes) -> str | None:
@@ -205,6 +202,5 @@ def fault_of_log(plan: "Plan", match: "Match", is_published: bool) -> str | None
 
 
 def faults_of_logs(plan: "Plan", results: Sequence["Result"], is_published: bool) -> list[str]:
-    """Returns the errors in the match logs of matches that count."""
     faults = made_side_by_side(fault_of_log, [(plan, result.match, is_published) for result in results])
     return [f"{result.match.id}: {fault}" for result, fault in zip(results, faults) if fault]

@@ -78,11 +78,12 @@ class Done:
         return (message_lines(self.errors) or [f"{ended_words(self.status)}, without a message"])[-1]
 
 
-async def run(words: list[str], given: bytes = b"", seconds: float | None = None) -> Done:
+async def run(words: list[str], seconds: float | None = None) -> Done:
     """Runs a process to its end. It is killed when its time is over, or if this is cancelled."""
     began = time.monotonic()
     async with started(words) as (process, _):
-        talk = asyncio.create_task(process.communicate(given))
+        # The empty input closes the pipe.
+        talk = asyncio.create_task(process.communicate(b""))
         try:
             await asyncio.wait([talk], timeout=seconds)
             # On a busy computer, this process may be late to notice that the other one has ended, or to read its output.

@@ -25,7 +25,7 @@ from ggp_tools.referee import NoReferee, Referee, Unchecked, find_program
 from ggp_tools.competition.serving import add_serve, run_serve
 from ggp_tools.competition.table import tables_of
 from ggp_tools.competition.table_text import in_order, joined, table_files, table_text, without_record
-from ggp_tools.competition.trying import try_player
+from ggp_tools.competition.trying import run_try
 from ggp_tools.competition.why import explanation
 from ggp_tools.printable import counted, printable
 from ggp_tools.reporting import Journal, Reporter
@@ -47,7 +47,6 @@ def add_program(parser: argparse.ArgumentParser, **more: object) -> None:
 
 
 def add_options(command: argparse.ArgumentParser, name: str) -> None:
-    """Adds the arguments of a command."""
     add = command.add_argument
     if name == "check":
         add("archives", nargs="+", metavar="ARCHIVE", help="the file of an archive")
@@ -306,32 +305,28 @@ def archive_path(plan: Plan, to: str | None) -> pathlib.Path:
 def run_publish(asked: argparse.Namespace, referee: Referee) -> int:
     # No other run changes the plan until the archive is written.
     with held(asked.folder):
-        return publish_planned(asked, referee)
-
-
-def publish_planned(asked: argparse.Namespace, referee: Referee) -> int:
-    plan = read_plan(asked.folder, referee)
-    path, known = archive_path(plan, asked.to), Known(plan.folder.path)
-    results, is_faulty = known_results(plan, referee, known)
-    missing, left = len(without_record(plan, results)), rounds_left(plan)
-    faults = []
-    if missing and (is_faulty or not asked.gaps):
-        # A wrong record is not a gap: the match must be played again, or the record corrected.
-        faults = [f"{counted(missing, 'match', 'has', 'have')} no lawful record{'' if is_faulty else '; `--gaps` publishes the others'}"]
-    elif left and not asked.gaps:
-        faults = [f"{left} of {left + len(plan.rounds)} rounds are not planned yet; `--gaps` publishes without them"]
-    faults = faults or list(faults_of_descriptions(plan, plan.folder.description, f", and {WRITES}"))
-    faults = faults or [f"{fault}; the match also counts without its log" for fault in faults_of_logs(plan, results, is_published=False)]
-    if not faults:
-        write_matches(plan, results)
-        try:
-            say(f"{publish(plan, referee, results, path, known)}  {path.name}")
-            known.write()
-        except TooLarge as why:
-            faults = [str(why)]
-    for fault in faults:
-        print(f"ggp_competition: nothing was published: {fault}", file=sys.stderr)
-    return bool(faults)
+        plan = read_plan(asked.folder, referee)
+        path, known = archive_path(plan, asked.to), Known(plan.folder.path)
+        results, is_faulty = known_results(plan, referee, known)
+        missing, left = len(without_record(plan, results)), rounds_left(plan)
+        faults = []
+        if missing and (is_faulty or not asked.gaps):
+            # A wrong record is not a gap: the match must be played again, or the record corrected.
+            faults = [f"{counted(missing, 'match', 'has', 'have')} no lawful record{'' if is_faulty else '; `--gaps` publishes the others'}"]
+        elif left and not asked.gaps:
+            faults = [f"{left} of {left + len(plan.rounds)} rounds are not planned yet; `--gaps` publishes without them"]
+        faults = faults or list(faults_of_descriptions(plan, plan.folder.description, f", and {WRITES}"))
+        faults = faults or [f"{fault}; the match also counts without its log" for fault in faults_of_logs(plan, results, is_published=False)]
+        if not faults:
+            write_matches(plan, results)
+            try:
+                say(f"{publish(plan, referee, results, path, known)}  {path.name}")
+                known.write()
+            except TooLarge as why:
+                faults = [str(why)]
+        for fault in faults:
+            print(f"ggp_competition: nothing was published: {fault}", file=sys.stderr)
+        return bool(faults)
 
 
 def run_why(asked: argparse.Namespace, referee: Referee) -> int:
@@ -339,10 +334,6 @@ def run_why(asked: argparse.Namespace, referee: Referee) -> int:
         # The directory may come from an archive, whose journal and logs may have any bytes.
         say(printable(line))
     return 0
-
-
-def run_try(asked: argparse.Namespace, referee: Referee) -> int:
-    return try_player(asked.folder, asked.player, asked.game, referee)
 
 
 def run_check(asked: argparse.Namespace, referee: Referee) -> int:

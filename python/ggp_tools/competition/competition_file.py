@@ -184,7 +184,6 @@ class Section:
         return str(found)
 
     def texts(self, key: str) -> list[Text]:
-        """Returns the texts of an array."""
         found = []
         for number, member in enumerate(self.value(key, list, "an array of texts", [])):
             line = self.line(key, number)
@@ -459,15 +458,15 @@ def players_of(root: Section) -> tuple[Player, ...]:
 def form_of(root: Section) -> Form:
     section = root.section("form")
     section.refuse_others(keys_of(Form))
-    kind = section.word("kind", tuple(KINDS), "round_robin")
+    kind, players = section.word("kind", tuple(KINDS), "round_robin"), root.names("players")
     rounds = section.number("rounds", 1, MOST_ROUNDS, None if kind == SWISS else 1)
     final = section.number("final", 2, MOST_PLAYERS) if "final" in section.table and kind == SWISS else 0
-    if final and final > len(root.names("players")):
-        section.mistake("final", f"the competition has {counted(len(root.names('players')), 'player')}")
+    if final and final > len(players):
+        section.mistake("final", f"the competition has {counted(len(players), 'player')}")
     one = section.text("one") if kind == "gauntlet" else ""
-    if one and one not in root.names("players"):
+    if one and one not in players:
         section.mistake("one", f"there is no player {spelled(one)}")
-    lines = lines_of_schedule(section, root.names("games"), root.names("players")) if kind == "schedule" else []
+    lines = lines_of_schedule(section, root.names("games"), players) if kind == "schedule" else []
     for key in section.table.keys() & set(keys_of(Form)) - {"kind", *KINDS[kind]}:
         section.mistake(key, f"the kind {kind} has no such key")
     return Form(kind, rounds, one, tuple(lines), final, section.first)

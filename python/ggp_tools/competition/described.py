@@ -26,7 +26,7 @@ def description_of(plan: Plan, game: Game) -> tuple[bytes | None, str | None]:
     the reason is None if there is none. Only the version that `plan` has read can be used."""
     file = plan.folder.description(game)
     try:
-        sums, text = sums_of(plan.folder.description_sums()), file.read_bytes()
+        sums, text = sums_of(plan.folder.description_sums), file.read_bytes()
     except Refused as why:
         return None, str(why)
     except OSError as why:

@@ -127,16 +127,12 @@ def write_whole(path: pathlib.Path, data: bytes, is_lasting: bool = True, is_pri
         file.write(data)
 
 
-def is_being_written(path: pathlib.Path) -> bool:
-    """Returns whether another process may be writing an unfinished file, by the process number in its name."""
-    number = path.name.removeprefix(UNFINISHED).partition("-")[0]
-    return number.isdecimal() and number != str(os.getpid()) and os.path.exists(f"/proc/{number}")
-
-
 def drop_unfinished(folder: pathlib.Path) -> None:
     """Deletes unfinished files of ended processes in a directory. This process must not be writing files in it."""
     for file in folder.glob(f"{UNFINISHED}*"):
-        if not is_being_written(file):
+        # The name of the file has the number of the process that writes it.
+        number = file.name.removeprefix(UNFINISHED).partition("-")[0]
+        if not (number.isdecimal() and number != str(os.getpid()) and os.path.exists(f"/proc/{number}")):
             file.unlink(missing_ok=True)
 
 
@@ -163,8 +159,6 @@ def file_bytes(path: str | pathlib.Path, most: int = -1) -> bytes:
 
 
 class Folder:
-    """The directory of a competition."""
-
     def __init__(self, path: pathlib.Path | str) -> None:
         self.path = pathlib.Path(path)
         self.competition = self.path / "competition.toml"
@@ -176,6 +170,8 @@ class Folder:
         # The table of another competition from which the seeds come.
         self.seeds = self.path / "seeds.csv"
         self.rules, self.open = self.path / "rules", self.path / "open"
+        # The checksums of the rules, and of the descriptions from which `plan` made them.
+        self.rule_sums, self.description_sums = self.rules / "SHA256SUMS", self.rules / "DESCRIPTIONS.sha256"
         self.records, self.accounts, self.logs = (self.path / name for name in ("records", "accounts", "logs"))
         self.matches, self.pages = self.path / "matches.jsonl", self.path / "pages"
         # What `play` has done, with the times; and the logs of the players that it starts.
@@ -192,20 +188,9 @@ class Folder:
         """Returns the files that `plan` writes for a game: its rules, and the rules that players get instead."""
         return [self.rules_of(game.name), *([self.player_rules_of(game.name)] if game.tells_variables() else [])]
 
-    def rule_sums(self) -> pathlib.Path:
-        return self.rules / "SHA256SUMS"
-
     def description(self, game: "Game") -> pathlib.Path:
         """Returns the file of a game's description. If competition.toml names ground rules too, this is the description with variables."""
         return self.path / (game.described or game.file)
-
-    def given(self, game: "Game") -> pathlib.Path:
-        """Returns the file from which a game's rules are made."""
-        return self.path / game.file
-
-    def description_sums(self) -> pathlib.Path:
-        """Returns the file of the checksums of the descriptions from which `plan` made the rules."""
-        return self.rules / "DESCRIPTIONS.sha256"
 
     def record(self, match: str) -> pathlib.Path:
         return self.records / f"{match}.json"
@@ -269,6 +254,5 @@ class Folder:
                 folder.chmod(0o700)
 
     def drop_unfinished(self) -> None:
-        """Deletes unfinished files of ended processes."""
         for folder in (self.path, self.rules, self.earlier, self.records, self.accounts, self.logs):
             drop_unfinished(folder)

@@ -33,7 +33,6 @@ MOST_MATCHES, MOST_SEED = 10_000, 10**18
 LISTED, MOST_STATE = 10, 500
 # `plan` tries at most this many matches until one ends, and begins no turn after this many seconds.
 TRIAL_MATCHES, TRIAL_SECONDS = 5, 10
-INTERPRETER = "the interpreter of ggp_competition"
 # The last line of `ggp-instantiate` if its error says nothing about the description.
 NO_VERDICT = re.compile(
     r"ggp-instantiate ended with status .*|ggp-instantiate: (error: |gringo is not installed|gringo took ).*|.*: can't open file .*"
@@ -68,7 +67,6 @@ def read_description(path: pathlib.Path) -> bytes:
 
 
 def run_game(asked: argparse.Namespace, referee: Referee) -> int:
-    """Reports on a description, and returns the exit status."""
     path, reporter, referee = pathlib.Path(asked.file), Reporter(), referee.taking(asked.large)
     text, why = read_description(path), None
     try:
@@ -166,7 +164,8 @@ def report_matches(reporter: Reporter, asked: argparse.Namespace, referee: Refer
         have = "has" if played.too_long == 1 else "have"
         reporter.line(f"{played.too_long:,} of them {have} a move that no player can make, so their records were not compared")
     for number, keys in played.differing:
-        reporter.line(f"seed {number}: the program's record differs from that of {INTERPRETER} in {' and '.join(keys)}: please report it")
+        words = f"the program's record differs from that of the interpreter of ggp_competition in {' and '.join(keys)}"
+        reporter.line(f"seed {number}: {words}: please report it")
     return bool(aborted or played.differing or not (ended or played.is_too_deep))
 
 

@@ -16,10 +16,8 @@ from ggp_tools.competition.rounds import Round, Rounds, is_by_rounds, meetings, 
 from ggp_tools.competition.schedule import Match, asked, id_of, refuse_numbers, refuse_too_many
 from ggp_tools.printable import counted
 
-# The number of matches that were planned when a version of competition.toml was replaced; None for the current version.
-Until = int | None
 # A game and its players in the order of the roles.
-Seated = tuple[str, tuple[str, ...]]
+GameAndPlayers = tuple[str, tuple[str, ...]]
 # Looks up the result of a match, or None if it is unknown.
 ResultOf = Callable[[Match], Result | None]
 
@@ -118,8 +116,6 @@ def new_players(before: Competition, after: Competition) -> list[str]:
 
 
 class Growing:
-    """A schedule that grows."""
-
     def __init__(self, history: History, roles: Mapping[str, int], result_of: ResultOf) -> None:
         self.roles, self.result_of, self.width, self.key = roles, result_of, 0, history.key
         self.matches: list[Match] = []
@@ -127,10 +123,11 @@ class Growing:
         self.again = {order.match: order for order in history.again}
         self.rounds = Rounds()
         # The matches that the last version asks for.
-        self.asked: list[Seated] = []
+        self.asked: list[GameAndPlayers] = []
 
-    def take(self, before: Competition | None, competition: Competition, until: Until, most: Until) -> None:
-        """Plans the matches that a version adds, and its rematches, up to `until` matches. No round begins after `most` matches."""
+    def take(self, before: Competition | None, competition: Competition, until: int | None, most: int | None) -> None:
+        """Plans the matches that a version adds, and its rematches, up to `until` matches if another version follows. No round begins after `most`
+        matches."""
         if is_by_rounds(competition):
             refuse_numbers(competition, self.roles)
             self.add_again(competition, until)
@@ -147,7 +144,7 @@ class Growing:
         self.add_all(competition, [(game, players) for game, players in found if withdrawn.keys().isdisjoint(players)])
         self.add_again(competition, until)
 
-    def added(self, before: Competition, after: Competition, known: Counter[Seated]) -> list[Seated]:
+    def added(self, before: Competition, after: Competition, known: Counter[GameAndPlayers]) -> list[GameAndPlayers]:
         """Returns the matches that a version adds to the known ones. Refuses a version that lacks a known match."""
         found, new = [], set(new_players(before, after))
         shared = {game.name for game in before.games if new and self.roles[game.name] > 2 and after.form.lines == ()}
@@ -166,7 +163,7 @@ class Growing:
                 raise Misfit(f"{gone[0]} ({game} {' '.join(players)}) was planned, but is no longer among the matches")
         return found
 
-    def next_round(self, competition: Competition, most: Until = None) -> Round | None:
+    def next_round(self, competition: Competition, most: int | None) -> Round | None:
         """Returns the next round if the last one is over, or None. After `most` matches it returns only a round without matches, for example if all
         but one player have withdrawn."""
         number, withdrawn, is_full = len(self.rounds.found), competition.withdrawn(), most is not None and len(self.matches) >= most
@@ -183,7 +180,7 @@ class Growing:
         last = itertools.takewhile(lambda match: match.round == number, reversed(self.matches)) if number else ()
         return [match for match in last if not match.again][::-1]
 
-    def add_all(self, competition: Competition, found: Sequence[Seated], round_number: int = 0) -> None:
+    def add_all(self, competition: Competition, found: Sequence[GameAndPlayers], round_number: int = 0) -> None:
         refuse_too_many(competition, len(self.matches) + len(found))
         games = {game.name: game for game in competition.games}
         for name, players in found:
@@ -205,7 +202,7 @@ class Growing:
             if name and not match.again and (competition.is_void(match.players, withdrawn) or self.result_of(match) is None):
                 self.matches[at] = replace(match, withdrawn=withdrawn_words(name, withdrawn[name]))
 
-    def add_again(self, competition: Competition, until: Until) -> None:
+    def add_again(self, competition: Competition, until: int | None) -> None:
         """Adds the rematches that were ordered at this point."""
         while (until is None or len(self.matches) < until) and (order := self.again.pop(self.next_id(competition), None)):
             refuse_too_many(competition, len(self.matches) + 1)
@@ -220,7 +217,7 @@ class Growing:
             self.add(replace(old, id=order.match, instead_of=old.id))
 
 
-def grown(history: History, competition: Competition, roles: Mapping[str, int], result_of: ResultOf, most: Until = None) -> Growing:
+def grown(history: History, competition: Competition, roles: Mapping[str, int], result_of: ResultOf, most: int | None = None) -> Growing:
     """Returns the schedule that follows from a competition, its history and its results. No round begins after `most` matches."""
     growing, before = Growing(history, roles, result_of), None
     for until, version in (*history.earlier, (None, competition)):

@@ -22,7 +22,6 @@ MOST_EARLIER, MOST_OF_EARLIER = MOST_PLAYERS, 64 << 20
 
 
 def again_text(orders: tuple[Again, ...]) -> bytes:
-    """Returns the contents of `again.tsv`."""
     lines = [f"{order.match}\t{order.instead_of}\t{order.reason}\n".encode("ascii") for order in orders]
     return HEAD + b"".join(lines)
 
@@ -73,18 +72,17 @@ def earlier_files(folder: Folder, *new: int) -> list[Path]:
     return sorted(found, key=lambda file: int(file.stem))
 
 
-def read_history(folder: Folder) -> History:
-    """Reads the history."""
+def read_history(folder: Folder, competition: Competition) -> History:
     earlier = tuple((int(file.stem), competition_of_file(file, file_bytes(file, MOST_OF_COMPETITION + 1), folder.seeds)) for file in earlier_files(folder))
-    return History(earlier, read_again(folder))
+    return History(earlier, read_again(folder), read_key(folder, competition))
 
 
-def read_key(folder: Folder, competition: Competition) -> bytes | None:
-    """Returns the key from which the ids of the matches are computed. The key is empty if the ids are counted, and None if its file is missing."""
+def read_key(folder: Folder, competition: Competition) -> bytes:
+    """Returns the key from which the ids of the matches are computed. The key is empty if the ids are counted."""
     if competition.ids != RANDOM_IDS:
         return b""
     if not folder.key.exists():
-        return None
+        raise Refused(f"{folder.key} is missing", "put it back: the ids of the matches follow from it")
     key = file_bytes(folder.key)
     if not KEY.fullmatch(key):
         raise Refused(f"{folder.key} is not what `ggp_competition plan` writes")
@@ -92,5 +90,4 @@ def read_key(folder: Folder, competition: Competition) -> bytes | None:
 
 
 def history_files(folder: Folder) -> list[Path]:
-    """Returns the files of the history."""
     return [*earlier_files(folder), *([folder.again] if folder.again.exists() else [])]

@@ -55,7 +55,6 @@ NO_PLAYER = """
 
 
 def add_init(command: argparse.ArgumentParser) -> None:
-    """Adds the arguments of the command."""
     command.add_argument("folder", metavar="DIRECTORY", help="the directory of the competition, which is created if it does not exist")
     command.add_argument("--name", metavar="NAME", help="the name of the competition (default: that of the directory)")
     command.add_argument("--games", metavar="A,B,..", help="names of games in examples/games, or paths of descriptions")
@@ -70,7 +69,6 @@ def add_init(command: argparse.ArgumentParser) -> None:
 
 
 def ask_for_the_rest(asked: argparse.Namespace) -> None:
-    """Asks a person for the games, the form and the players."""
     asked.games = input("Games, such as tictactoe,connectfour: ")
     form, _, more = input("Form: round-robin ROUNDS, swiss ROUNDS, gauntlet PLAYER or knockout: ").strip().partition(" ")
     if form not in FORMS:
@@ -89,7 +87,6 @@ def game_entry(word: str, folder: pathlib.Path) -> str:
 
 
 def text_of(asked: argparse.Namespace, folder: pathlib.Path) -> str:
-    """Returns the text of competition.toml."""
     form, more = asked.form
     keys = {"gauntlet": f'one = "{more}"\n', "knockout": ""}.get(form, f"rounds = {more}\n")
     keys += f"final = {asked.final}\n" if asked.final else ""

@@ -121,7 +121,6 @@ class Job:
             self.say(f"player {self.process.pid} {player['host'] or socket.gethostname()}:{port}")
 
     def pass_on(self) -> None:
-        """Passes on output of the process."""
         data = left = os.read(self.pipe.fileno(), MOST)
         while left:
             left = left[os.write(1 if self.is_player else 2, left) :]

@@ -23,7 +23,6 @@ KIND = "known"
 
 
 def sum_of_parts(*parts: bytes) -> str:
-    """Returns a checksum of a sequence of parts."""
     checksum = hashlib.sha256()
     for part in parts:
         checksum.update(b"%d " % len(part) + part)

@@ -49,7 +49,7 @@ OVER = re.compile(r"/matches/([A-Za-z0-9_.-]+)(?:~([1-9][0-9]{0,4}))?\.html")
 
 def plan_stamp(folder: Folder) -> tuple:
     """Returns a value that changes when the plan is written again."""
-    return tuple(map(identity_of, (folder.competition, folder.schedule, folder.rule_sums())))
+    return tuple(map(identity_of, (folder.competition, folder.schedule, folder.rule_sums)))
 
 
 def without_new_rounds(plan: Plan, seconds: float) -> Plan:

@@ -43,15 +43,15 @@ class Check(NamedTuple):
     result: Result | None = None
 
 
-def size_of(path: pathlib.Path) -> int:
-    return path.stat().st_size if path.exists() else 0
+def size_of(*files: pathlib.Path) -> int:
+    return sum(file.stat().st_size for file in files if file.exists())
 
 
 def batches(folder: Folder, matches: Iterable[Match]) -> Iterator[list[Match]]:
     """Yields the matches in order, in batches that are checked together."""
     batch, size = [], 0
     for match in matches:
-        more = size_of(folder.record(match.id)) + size_of(folder.account(match.id))
+        more = size_of(*files_of(folder, match.id)[1:])
         if batch and (len(batch) == TOGETHER or size + more > BYTES_TOGETHER):
             yield batch
             batch, size = [], 0
@@ -184,8 +184,8 @@ def check_records(plan: "Plan", referee: Referee, known: Known | None = None) ->
             by_game.setdefault(match.game, []).append(match)
 
     def check_batch(part: tuple[str, list[Match]]) -> list[Check]:
-        sizes = (size_of(file(match.id)) for match in part[1] for file in (plan.folder.record, plan.folder.account))
-        with LARGE if sum(sizes) > BYTES_TOGETHER else contextlib.nullcontext():
+        size = sum(size_of(*files_of(plan.folder, match.id)[1:]) for match in part[1])
+        with LARGE if size > BYTES_TOGETHER else contextlib.nullcontext():
             return checks(plan, referee, *part, known)
 
     parts = [(game, batch) for game, matches in by_game.items() for batch in batches(plan.folder, matches)]

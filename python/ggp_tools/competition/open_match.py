@@ -150,9 +150,9 @@ class OpenMatch:
 
     def run_words(self, log: pathlib.Path | str) -> list[str]:
         """Returns the command line of the referee. The referee may run in another directory."""
-        rules, player_rules = self.plan.folder.rules_of(self.match.game).absolute(), self.plan.player_rules_path(self.match.game)
-        strikes = self.plan.competition.strikes
-        return self.referee.run_words(rules, player_rules and player_rules.absolute(), self.match, strikes, self.places, log)
+        folder, game = self.plan.folder, self.match.game
+        player_rules = None if self.plan.rules[game].player_rules is None else folder.player_rules_of(game).absolute()
+        return self.referee.run_words(folder.rules_of(game).absolute(), player_rules, self.match, self.plan.competition.strikes, self.places, log)
 
     def add_event(self, event: Event) -> None:
         with open(self.log, "ab") as file:

@@ -67,7 +67,6 @@ def pack(file: BinaryIO, contents: Iterable[tuple[str, bytes]]) -> None:
 
 
 def most_of_file(name: str) -> int:
-    """Returns how many bytes a file of an archive may have."""
     return MOST_OF_FILES.get(name.split("/")[1], MOST_BYTES) if "/" in name else MOST_BYTES
 
 

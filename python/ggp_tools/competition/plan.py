@@ -9,7 +9,7 @@ from dataclasses import dataclass, field, replace
 from pathlib import Path
 
 from ggp_tools.competition.addresses import mistakes_of_addresses, places_now, written
-from ggp_tools.competition.competition_file import MOST_OF_COMPETITION, REASON, Competition, Game, Mistake, Mistaken, mistake_lines
+from ggp_tools.competition.competition_file import MOST_OF_COMPETITION, RANDOM_IDS, REASON, Competition, Game, Mistake, Mistaken, mistake_lines
 from ggp_tools.competition.files import UNFINISHED, Folder, Refused, file_bytes, held, write_whole
 from ggp_tools.competition.game import trial
 from ggp_tools.competition.growth import Again, Growing, History, Misfit, grown, refuse_changes, refuse_unchanged, shape
@@ -45,7 +45,6 @@ class Plan:
     known: int | None = None
 
     def next_id(self) -> str:
-        """Returns the id of the next match that is planned."""
         width = len(self.matches[0].id.removeprefix(f"{self.competition.name}-").partition("-")[0])
         return id_of(self.competition, len(self.matches) + 1, width, self.history.key)
 
@@ -62,10 +61,6 @@ class Plan:
     def read_record(self, match: Match) -> bytes:
         """Returns the record of a match. If the file is too long for its game, this returns just enough of it to show that."""
         return record_bytes(self.folder, match.id, self.rules[match.game].text)
-
-    def player_rules_path(self, game: str) -> Path | None:
-        """Returns the file of the rules that players get instead of the ground rules, or None."""
-        return None if self.rules[game].player_rules is None else self.folder.player_rules_of(game)
 
 
 class Unplanned(Refused):
@@ -88,7 +83,6 @@ def read_toml_file(path: Path) -> bytes:
 
 
 def read_planned(path: Path) -> bytes:
-    """Returns the bytes of a file that `plan` wrote."""
     if not path.exists():
         raise Unplanned(f"{path} does not exist", WRITES)
     return read_file(path)
@@ -111,7 +105,6 @@ def read_sums(data: bytes) -> dict[str, str] | None:
 
 
 def sums_of(path: Path) -> dict[str, str]:
-    """Returns the checksums in a file that `plan` has written."""
     sums = read_sums(read_planned(path))
     if sums is None:
         raise not_planned(path)
@@ -145,10 +138,6 @@ def refused_plan(folder: Folder, path: Path) -> Unplanned:
     return Unplanned(f"{path} does not agree with {folder.competition}", advice)
 
 
-def lost_key(folder: Folder) -> Refused:
-    return Refused(f"{folder.key} is missing", "put it back: the ids of the matches follow from it")
-
-
 # ---- making a plan
 
 
@@ -163,18 +152,15 @@ def schedule_of(folder: Folder, competition: Competition, rules: Mapping[str, Ru
         raise Refused(why.at(folder.competition), PUT_BACK) from None
 
 
-def is_in_rules(folder: Folder, path: Path) -> bool:
-    """Returns whether a file is in the directory of the rules. `Path.resolve` would fail for links in a circle."""
-    return os.path.dirname(os.path.realpath(path)) == os.path.realpath(folder.rules)
-
-
 def loaded_games(folder: Folder, competition: Competition, referee: Referee) -> dict[str, Rules]:
     """Returns the rules of each game, by name. Refuses all invalid descriptions together."""
     rules_by_name, mistakes = {}, []
     for game in competition.games:
-        path, program = folder.given(game), referee.taking(game.large)
-        if inside := [file for file in (path, folder.description(game)) if is_in_rules(folder, file)]:
-            mistakes.append(Mistake(game.line, "games.file", f"{inside[0]}: a description must not be in {folder.rules}, where `plan` writes the rules"))
+        path, program = folder.path / game.file, referee.taking(game.large)
+        # `Path.resolve` would fail for links in a circle.
+        places = {os.path.dirname(os.path.realpath(file)): file for file in (folder.description(game), path)}
+        if inside := places.get(os.path.realpath(folder.rules)):
+            mistakes.append(Mistake(game.line, "games.file", f"{inside}: a description must not be in {folder.rules}, where `plan` writes the rules"))
             continue
         try:
             if game.described:
@@ -230,31 +216,32 @@ def make_plan(path: str, referee: Referee, is_preview: bool = False) -> Plan:
     with held(folder.path):
         has_begun = is_begun(folder)
         known = count_of_matches(folder) if has_begun else None
-        key = read_key(folder, competition)
-        new_key = secrets.token_hex(16).encode("ascii") + b"\n" if key is None else key
-        history, earlier = history_of(folder, competition, rules, new_key) if has_begun else (History(key=new_key), {})
-        if has_begun and key is None:
-            raise lost_key(folder)
+        needs_key = competition.ids == RANDOM_IDS and not (has_begun or folder.key.exists())
+        new_key = {folder.key: secrets.token_hex(16).encode("ascii") + b"\n"} if needs_key else {}
+        if has_begun:
+            history, earlier = history_of(folder, competition, rules)
+        else:
+            history, earlier = History(key=new_key.get(folder.key) or read_key(folder, competition)), {}
         schedule = schedule_of(folder, competition, rules, history, known)
         if not is_preview:
             write_plan(folder, has_begun, {
                 **earlier,
-                **({folder.key: new_key} if key is None else {}),
+                **new_key,
                 **({folder.seeds: read_file(seeds)} if seeds else {}),
                 **files,
-                folder.description_sums(): sums_text({f"{name}.kif": ground.description_sum for name, ground in rules.items()}),
+                folder.description_sums: sums_text({f"{name}.kif": ground.description_sum for name, ground in rules.items()}),
                 # Without these checksums the other files do not count, so an interrupted plan must be made again.
-                folder.rule_sums(): sums_text({file.name: sum_of(data) for file, data in files.items()}),
+                folder.rule_sums: sums_text({file.name: sum_of(data) for file, data in files.items()}),
                 folder.planned: text,
                 folder.schedule: schedule_text(schedule.matches),
             })
     return Plan(folder, competition, rules, schedule.matches, text, history, schedule.rounds.found, known)
 
 
-def history_of(folder: Folder, competition: Competition, rules: Mapping[str, Rules], key: bytes) -> tuple[History, dict[Path, bytes]]:
+def history_of(folder: Folder, competition: Competition, rules: Mapping[str, Rules]) -> tuple[History, dict[Path, bytes]]:
     """Returns the history of a competition that has been played, and the last planned version if it must be stored. If competition.toml now asks for
     other matches, the history ends with that version."""
-    history, before = replace(read_history(folder), key=key), planned_before(folder, competition)
+    before, history = planned_before(folder, competition), read_history(folder, competition)
     if before is None or shape(before) == shape(competition):
         return history, {}
     until = len(schedule_of(folder, before, rules, history, count_of_matches(folder)).matches)
@@ -279,7 +266,7 @@ def planned_before(folder: Folder, competition: Competition) -> Competition | No
 
 def grows(folder: Folder, file: Path, old: bytes, new: bytes) -> bool:
     """Returns whether a file of a plan may be replaced although matches have been played. All files except planned.toml may only grow."""
-    if file in (folder.rule_sums(), folder.description_sums()):
+    if file in (folder.rule_sums, folder.description_sums):
         return (read_sums(old) or {"": ""}).items() <= (read_sums(new) or {}).items()
     if file == folder.schedule:
         # A round may be planned again as long as none of its matches has a record.
@@ -308,7 +295,7 @@ def write_plan(folder: Folder, is_begun: bool, files: dict[Path, bytes]) -> None
 def faults_of_descriptions(plan: Plan, path_of: Callable[[Game], Path], advice: str = "") -> Iterator[str]:
     """Yields an error for each description that the rules were not made from. `path_of` returns the file of a game's description, and the advice is
     added if the file of the checksums is missing."""
-    path = plan.folder.description_sums()
+    path = plan.folder.description_sums
     if not path.is_file():
         yield f"{path} is missing: it has the checksums of the descriptions{advice}"
         return
@@ -327,9 +314,9 @@ def faults_of_descriptions(plan: Plan, path_of: Callable[[Game], Path], advice: 
 
 def read_rules(folder: Folder, competition: Competition, referee: Referee) -> dict[str, Rules]:
     """Returns the rules of each game, by name, as `plan` wrote them."""
-    sums, rules = sums_of(folder.rule_sums()), {}
+    sums, rules = sums_of(folder.rule_sums), {}
     if sums.keys() != {file.name for game in competition.games for file in folder.rule_files(game)}:
-        raise refused_plan(folder, folder.rule_sums())
+        raise refused_plan(folder, folder.rule_sums)
     for game in competition.games:
         files = folder.rule_files(game)
         texts = list(map(read_planned, files))
@@ -348,19 +335,18 @@ def read_plan(path: str, referee: Referee) -> Plan:
     folder.refuse_old_logs()
     text = read_toml_file(folder.competition)
     competition = competition_of_file(folder.competition, text, folder.seeds)
-    schedule, rules, history = read_planned(folder.schedule), read_rules(folder, competition, referee), read_history(folder)
-    key = read_key(folder, competition)
-    if key is None:
-        raise lost_key(folder)
-    history = replace(history, key=key)
+    schedule, rules, history = read_planned(folder.schedule), read_rules(folder, competition, referee), read_history(folder, competition)
     try:
         growing = schedule_of(folder, competition, rules, history, count_of_matches(folder))
         if schedule != schedule_text(growing.matches):
             refuse_lost_record(folder, growing, schedule)
             raise refused_plan(folder, folder.schedule)
     except Refused:
+        # If rounds were paired by records that do not count, the schedule differs.
         if is_by_rounds(competition):
-            refuse_wrong_records(Plan(folder, competition, rules, matches_in(schedule, competition)), referee)
+            _, faults, misfits = check_records(Plan(folder, competition, rules, matches_in(schedule, competition)), referee)
+            if wrong := [f"{folder.record(match)}: {why}" for match, why in {**faults, **misfits}.items()]:
+                raise Refused("\n".join(wrong)) from None
         raise
     try:
         refuse_unchanged(history, competition)
@@ -369,13 +355,6 @@ def read_plan(path: str, referee: Referee) -> Plan:
     if is_begun(folder):
         planned_before(folder, competition)
     return Plan(folder, competition, rules, growing.matches, text, history, growing.rounds.found)
-
-
-def refuse_wrong_records(plan: Plan, referee: Referee) -> None:
-    """Refuses records that do not count. If rounds were paired by their results, the schedule differs from that of the plan."""
-    _, faults, misfits = check_records(plan, referee)
-    if wrong := [f"{plan.folder.record(match)}: {why}" for match, why in {**faults, **misfits}.items()]:
-        raise Refused("\n".join(wrong))
 
 
 def refuse_lost_record(folder: Folder, growing: Growing, schedule: bytes) -> None:

@@ -71,7 +71,6 @@ class Playing:
             playing += 1
 
     async def run_match(self, open_match: OpenMatch) -> None:
-        """Plays a match, and handles its outcome."""
         try:
             try:
                 await open_match.go()

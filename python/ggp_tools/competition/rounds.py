@@ -150,7 +150,7 @@ def bracket(count: int) -> list[int]:
     """Returns the seeds, counted from 0, in the order of the bracket, filled up to a power of two."""
     seeds = [0]
     while len(seeds) < count:
-        seeds = [seat for seed in seeds for seat in (seed, 2 * len(seeds) - 1 - seed)]
+        seeds = [place for seed in seeds for place in (seed, 2 * len(seeds) - 1 - seed)]
     return seeds
 
 
@@ -176,8 +176,6 @@ def knockout_round(size: int, names: Sequence[str], before: Sequence[Round], win
 
 
 class Rounds:
-    """The planned rounds."""
-
     def __init__(self) -> None:
         self.found: list[Round] = []
         self.scores: Scores | None = None
@@ -217,7 +215,6 @@ class Rounds:
         return knockout_round(final or len(competition.players), self.seeds, before, winners, self.withdrawn)
 
     def count(self, results: Sequence[Result]) -> None:
-        """Counts the results of the last round."""
         self.counted = len(self.found)
         self.results += results
         plays: dict[str, list[bool]] = defaultdict(list)
@@ -241,7 +238,6 @@ def scores_and_seeds(competition: Competition, rounds: Sequence[Round], results:
 
 
 def by_meeting(results: Iterable[Result]) -> dict[Meeting, list[Result]]:
-    """Returns the results of each pairing."""
     found: dict[Meeting, list[Result]] = defaultdict(list)
     for result in results:
         found[result.match.round, frozenset(result.match.players)].append(result)

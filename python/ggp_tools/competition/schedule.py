@@ -84,7 +84,6 @@ def gauntlet(players: Sequence[str], one: str, roles: int, rounds: int) -> Itera
 
 
 def pairings(competition: Competition, roles: Mapping[str, int]) -> Iterator[tuple[str, tuple[str, ...]]]:
-    """Yields the game and the players of each match."""
     form, players = competition.form, [player.name for player in competition.players]
     for name, *of_line in (line.text.split() for line in form.lines):
         yield name, tuple(of_line)
@@ -127,7 +126,7 @@ def refuse_too_many(competition: Competition, count: int) -> None:
         raise Mistaken([Mistake(competition.form.line, "form", f"there are more than {MOST_MATCHES:,} matches")])
 
 
-def id_of(competition: Competition, number: int, width: int, key: bytes = b"") -> str:
+def id_of(competition: Competition, number: int, width: int, key: bytes) -> str:
     """Returns the id of the match with a number, counted from 1. The number has at least as many digits as those of the matches that were planned
     first. An id with a key cannot be guessed without the key."""
     counted = f"{competition.name}-{number:0{max(3, width)}}"

@@ -129,7 +129,7 @@ class StartedPlayer:
 
     async def came_up(self) -> str:
         """Starts the process, and waits until it answers INFO. Returns why it does not, or an empty text."""
-        command, launcher = self.command, [word.replace("{player}", self.name) for word in self.command.launcher]
+        command, launcher = self.command, launcher_of(self.folder, self.name, self.command)
         job = Job(self.log.take, lambda line: self.log.write(line + b"\n"), "player", END_SECONDS)
         self.job = job
         job.start(launcher, {"words": [program_of(self.folder, self.command.words[0]), *command.words[1:]], "player": {
@@ -173,7 +173,6 @@ class StartedPlayer:
 
 
 def words_of_end(job: Job) -> str:
-    """Describes how a player has ended."""
     return job.why or ("it can't be started" if job.status is None else ended_words(job.status))
 
 
@@ -191,19 +190,16 @@ class StartedPlayers:
         return [self.players[name] for name in names if name in self.players]
 
     def place(self, name: str) -> str:
-        """Returns the name and the current address of a player."""
         if name in self.players:
             return self.players[name].place()
         return self.addresses.get(name) or self.competition.player(name).place()
 
     async def ready(self, match: str, names: tuple[str, ...]) -> None:
-        """Starts the players of a match that have a command, unless they are running."""
         async with asyncio.TaskGroup() as group:
             for player in self.of(names):
                 group.create_task(player.ready(match))
 
     def is_over(self, name: str) -> bool:
-        """Returns whether a player does not run, and is not started again."""
         return name in self.players and bool(self.players[name].over)
 
     def leave(self, match: str, names: tuple[str, ...]) -> None:
@@ -219,25 +215,26 @@ def program_of(folder: Folder, word: str) -> str:
     return str((folder.path / word).absolute()) if "/" in word else word
 
 
+def launcher_of(folder: Folder, name: str, command: Command) -> list[str]:
+    words = [word.replace("{player}", name) for word in command.launcher]
+    return [program_of(folder, word) for word in words[:1]] + words[1:]
+
+
 def mistakes_of_programs(folder: Folder, competition: Competition) -> Iterator[Mistake]:
-    """Yields a mistake for each player whose program, launcher or directory does not exist."""
+    """Yields a mistake for each player whose program, launcher or directory does not exist, or whose limits are above what this computer has."""
+    most, memory = len(os.sched_getaffinity(0)), os.sysconf("SC_PHYS_PAGES") * os.sysconf("SC_PAGE_SIZE")
     for player in competition.players:
         if not player.command:
             continue
-        words = player.command.launcher or player.command.words
-        program, directory = program_of(folder, words[0]), folder.path / player.command.directory
+        launcher, directory = launcher_of(folder, player.name, player.command), folder.path / player.command.directory
+        program = launcher[0] if launcher else program_of(folder, player.command.words[0])
         if not shutil.which(program):
-            yield Mistake(player.line, f"players.{'launcher' if player.command.launcher else 'command'}", f"{program} is not a program that can be run")
+            yield Mistake(player.line, f"players.{'launcher' if launcher else 'command'}", f"{program} is not a program that can be run")
         if not os.path.isdir(directory):
             yield Mistake(player.line, "players.directory", f"{directory} is not a directory")
-        if not player.command.launcher:
-            yield from mistakes_of_limits(player.line, player.command)
-
-
-def mistakes_of_limits(line: int, command: Command) -> Iterator[Mistake]:
-    """Yields a mistake for each limit of a player that is above what this computer has."""
-    processors, memory = len(os.sched_getaffinity(0)), os.sysconf("SC_PHYS_PAGES") * os.sysconf("SC_PAGE_SIZE")
-    if command.processors > processors:
-        yield Mistake(line, "players.processors", f"{command.processors} are more than the {processors} that `play` may use on this computer")
-    if command.memory > memory:
-        yield Mistake(line, "players.memory", f"{command.memory:,} bytes are more than the {memory:,} bytes of this computer")
+        if not launcher and player.command.processors > most:
+            words = f"{player.command.processors} are more than the {most} that `play` may use on this computer"
+            yield Mistake(player.line, "players.processors", words)
+        if not launcher and player.command.memory > memory:
+            words = f"{player.command.memory:,} bytes are more than the {memory:,} bytes of this computer"
+            yield Mistake(player.line, "players.memory", words)

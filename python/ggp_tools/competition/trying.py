@@ -1,5 +1,6 @@
 """Starts one player that has a command, and checks it with the referee."""
 
+import argparse
 import asyncio
 import pathlib
 import tempfile
@@ -48,16 +49,16 @@ async def checked(started: StartedPlayer, referee: Referee, game: Game, rules: R
         await started.end()
 
 
-def try_player(folder_or_file: str, name: str, game_name: str | None, referee: Referee) -> int:
-    given, reporter = pathlib.Path(folder_or_file), Reporter()
+def run_try(asked: argparse.Namespace, referee: Referee) -> int:
+    given = pathlib.Path(asked.folder)
     folder = Folder(given if given.is_dir() else given.parent)
     path = folder.competition if given.is_dir() else given
     competition = competition_of_file(path, read_toml_file(path))
-    player, game = chosen(competition, path, name, game_name)
+    player, game = chosen(competition, path, asked.player, asked.game)
     refuse_addresses(folder, replace(competition, players=(player,)))
     rules = loaded_games(folder, replace(competition, games=(game,)), referee)[game.name]
     # Locking keeps `play` from starting the same player.
     with held(folder.path):
         folder.make(folder.players)
-        started = StartedPlayer(folder, player, 0, referee, reporter)
+        started = StartedPlayer(folder, player, 0, referee, Reporter())
         return asyncio.run(checked(started, referee.taking(rules.is_large), game, rules))
