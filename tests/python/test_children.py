@@ -10,6 +10,7 @@ from ggp_tools.competition import children, jobs
 from ggp_tools.competition.children import run
 from ggp_tools.competition.jobs import Job, Lost
 from ggp_tools.processes import ended_words
+from support import command_of, wait_until
 
 NODE = "import sys\nsys.stderr.write('ggp_competition: node n1\\n')\nsys.stderr.flush()\n"
 CLEAR = "bad \x1b]0;title\x07 words \x9b31m"
@@ -41,10 +42,6 @@ def ran(script, job=None):
         return found
 
     return asyncio.run(go())
-
-
-def is_alive(process):
-    return os.path.exists(f"/proc/{process}/cmdline") and bool(open(f"/proc/{process}/cmdline").read())
 
 
 # ---- jobs
@@ -153,8 +150,7 @@ def test_a_job_that_is_ended_is_ended_with_what_it_has_started(hears):
 
     job = asyncio.run(go())
     assert (job.goes_on, job.process.returncode) == (not hears, 0 if hears else -9)
-    while is_alive(int(job.node)):
-        pass
+    wait_until(lambda: not command_of(job.node))
 
 
 # ---- other processes
@@ -214,8 +210,7 @@ def test_a_process_that_is_cancelled_is_ended_with_what_it_has_started(tmp_path,
         return int(process)
 
     process = asyncio.run(go())
-    while is_alive(process):
-        pass
+    wait_until(lambda: not command_of(process))
 
 
 def test_the_last_words_are_printable_and_short(tmp_path):

@@ -148,7 +148,7 @@ class Section:
         return self.table[key]
 
     def text(self, key: str, default: str | None = None, what: str = "", is_valid: Callable[[str], object] = bool) -> str | None:
-        """Returns the text of the key, or the default if it is missing or not a text. If `what` is given, a text that is not valid is a mistake too."""
+        """Returns the text of the key, or the default if it is missing or not a text. If `what` is given, the text must be valid."""
         found = self.value(key, str, "a text in quotes", default)
         if what and found is not None and found is self.table.get(key) and not is_valid(found):
             self.expected(key, what, found)
