@@ -163,7 +163,7 @@ def unpublished(log: bytes, run: Sequence[Event]) -> str | None:
 
 
 def has_sound_reason(message: Message) -> bool:
-    """Returns whether a message has a reason only if it has an error, and only a reason that the referee gives."""
+    """Returns False if the message has a reason but no error, or a reason that the referee never gives."""
     parts = NUMBER.sub("N", message.reason).split(": ") if message.reason is not None else []
     return not parts or message.error is not None and all(part in REASONS or KIND.fullmatch(part) for part in parts)
 

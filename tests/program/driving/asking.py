@@ -66,7 +66,8 @@ def asked(program, words, text=b""):
 
 
 def asked_for_seconds(program, words, text=b""):
-    """Returns the result of the program, and the processor seconds that it took. No other process may end meanwhile."""
+    """Returns the result of the program, and the processor seconds that it took. No other child process may end in the meantime, or its time
+    would be counted too."""
     before = resource.getrusage(resource.RUSAGE_CHILDREN)
     said = asked(program, words, text)
     after = resource.getrusage(resource.RUSAGE_CHILDREN)
