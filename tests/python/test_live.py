@@ -11,7 +11,7 @@ from unittest.mock import patch
 
 from ggp_tools.competition import live, live_board
 from ggp_tools.competition.files import held
-from ggp_tools.competition.live import Reader
+from ggp_tools.competition.live import Delay, Reader
 from ggp_tools.competition.live_board import NO_LINE, NO_VERDICT, TOO_LONG, LiveBoard
 from ggp_tools.competition.live_pages import now_part, open_row, replaced_part, state_html, turn_row
 from ggp_tools.competition.open_match import leave_players
@@ -94,6 +94,17 @@ class Lines(InRoom):
         look(reader)
         self.assertEqual((list(reader.open), list(reader.results)), ([self.match.id], [other.id]))
         self.assertEqual(reader.faults, {pipe.id: "it can't be read: it is not a regular file", long.id: "it is longer than 16 MiB"})
+
+    def test_a_delay_keeps_only_once_what_does_not_change(self):
+        reader, other = Reader(self.plan, Referee(program()), Delay(3_600)), self.plan.matches[1]
+        log = begin(self.plan, self.match)
+        begin(self.plan, other)
+        before = reader.read_open_files()
+        self.say(log, "x")
+        after = reader.read_open_files()
+        self.assertNotEqual(before[self.match.id], after[self.match.id])
+        self.assertIs(before[other.id], after[other.id])
+        self.assertIs(reader.read_open_files(), after)
 
     def test_whom_a_match_waits_for(self):
         log, reader = begin(self.plan, self.match), self.reader()

@@ -387,7 +387,8 @@ class Reader:
             # While INFO is being sent, a match would show that a player is silent, perhaps even in an open turn of another match.
             playing = {player for name, files in matches.items() if files.stage != ASKING for player in self.known[name].players}
             matches = {name: files for name, files in matches.items() if files.stage != ASKING or playing.isdisjoint(self.known[name].players)}
-            # Equal snapshots share this object.
+            # Snapshots share what has not changed.
+            matches = {name: self.open_files[name] if self.open_files.get(name) == files else files for name, files in matches.items()}
             self.open_files = matches if matches != self.open_files else self.open_files
         return self.open_files
 
