@@ -208,7 +208,9 @@ class Seats(unittest.TestCase):
         self.assertIsNone(self.seat.move("(mark 2 2)", self.seat.asked))
         asked.join(SECONDS)
         self.assertEqual(self.answers, ["(mark 2 2)"])
+        self.assertEqual(self.seat.answer("(INFO)"), "busy")
         self.seat.expected = 0.0
+        self.assertEqual(self.seat.answer("(INFO)"), "available")
         self.assertEqual(self.seat.answer(other), "ready")
 
     def test_messages_of_another_receiver_are_not_this_roles(self):

@@ -114,7 +114,7 @@ class Seat:
             return "busy"
         is_own = match == self.match and receiver == self.receiver
         if keyword == "info":
-            return "available" if not self.match and self.is_person_there() else "busy"
+            return "available" if self.is_free() and self.is_person_there() else "busy"
         if keyword == "start" and (is_own or self.is_free()):
             return self.start(match, receiver, text)
         if not is_own or len(text) > MOST_MESSAGE:
