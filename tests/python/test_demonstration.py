@@ -218,7 +218,7 @@ class Demonstration(InFolder):
     def dispute(self) -> None:
         """Asks what happened to a player, and has a match played again."""
         said = "\n".join(self.ran("why", ".", OF_EVE, "eve"))
-        self.assertRegex(said, r"turn 2: PLAY was answered `.*no legal move.*turn 2 in a row without a move of its own, so it is retired\.")
+        self.assertRegex(said, r"turn 2: PLAY was answered `.*not a legal move.*turn 2 in a row without a move of its own, so it is retired\.")
         self.assertEqual(self.ran("why", ".", OF_ANN, "ann")[-1], "the match has no record that counts")
         again = self.ran("again", FIRST, "--reason", "the power of ann's machine was out")
         self.assertEqual(again, [f"cup-019 tictactoe ann bob replaces {FIRST}"])
