@@ -1,0 +1,80 @@
+//! How conversations end.
+ghost use Rattle.std.specs.Prelude.{◌≡◌};
+ghost use Rattle.desk_service.specs.Rows.{is_stopped, last_row};
+
+use call_history::CallFault;
+use std::alloc::AllocError;
+use std::fmt;
+
+/// How a conversation ended.
+#[derive(Clone, Copy, Debug, PartialEq, Eq)]
+pub enum Ending {
+    /// The client sends nothing more, and got all its replies.
+    Left,
+    /// A read or a write failed.
+    Broken,
+    /// A row is longer than the limit.
+    TooLong,
+    /// The history is full.
+    Full,
+    /// Out of memory.
+    Memory,
+}
+
+impl Ending {
+    /// Whether the service has ended the conversation.
+    pub(crate) fn is_stopped(self) -> bool
+        ensures { result ≡ is_stopped self }
+    {
+        matches!(self, Ending::TooLong | Ending::Full | Ending::Memory)
+    }
+
+    /// The last row that the client gets if the service ends the conversation.
+    pub(crate) fn last_row(self) -> &'static [u8]
+        ensures { result.now ≡ last_row self }
+    {
+        match self {
+            Ending::Left | Ending::Broken => b"",
+            Ending::TooLong => b"toolong\n",
+            Ending::Full => b"full\n",
+            Ending::Memory => b"memory\n",
+        }
+    }
+}
+
+impl fmt::Display for Ending {
+    fn fmt<W: fmt::Write>(&self, f: &mut fmt::Formatter<W>) -> fmt::Result {
+        f.write_str(match *self {
+            Ending::Left => "the client left",
+            Ending::Broken => "the connection broke",
+            Ending::TooLong => "a row has more than 1048576 bytes",
+            Ending::Full => "the history is full",
+            Ending::Memory => "want of memory",
+        })
+    }
+}
+
+impl From<CallFault> for Ending {
+    ghost use Rattle.std.specs.Prelude.{◌≡◌};
+    ghost use Rattle.desk_service.specs.Rows.{fault_ending};
+
+    ghost from_gives = { λ fault ending. ending ≡ fault_ending fault };
+
+    fn from(fault: CallFault) -> Ending {
+        match fault {
+            CallFault::Full => Ending::Full,
+            CallFault::Memory => Ending::Memory,
+        }
+    }
+}
+
+impl From<AllocError> for Ending {
+    ghost use Rattle.std.specs.Prelude.{◌≡◌};
+    ghost use Rattle.desk_service.specs.declared.ending.Ending.TheVariants.{Memory};
+
+    ghost from_gives = { λ _ ending. ending ≡ Memory };
+
+    fn from(_: AllocError) -> Ending {
+        Ending::Memory
+    }
+}
