@@ -3,8 +3,7 @@ ghost use Rattle.std.specs.Prelude.{◌≤◌, IfOk};
 
 use crate::program::program;
 use crate::tasks::{
-    AbortPlan, GameOptions, GameRequest, InfoPlan, Invocation, ListenAddress, MatchTask, RunPlan,
-    SeasonPlan, ServicePlan, Task,
+    AbortPlan, GameOptions, GameRequest, InfoPlan, MatchTask, RunPlan, SeasonPlan, Task,
 };
 use clap::ArgMatches;
 use clap::error::ErrorKind;
@@ -14,12 +13,6 @@ use match_plans::{
     RecordOrder, RulesSource, SeasonForm, decimal, player_address,
 };
 use std::alloc::{AllocError, AllocFailed, Global};
-use std::net::SocketAddr;
-
-/// The largest number of lines of a served desk.
-const MAX_SERVED_LINES: u64 = 64;
-
-const USUAL_SERVED_LINES: u32 = 8;
 
 /// Why a value on a well-formed command line is invalid.
 #[derive(Clone, Copy)]
@@ -35,8 +28,6 @@ pub enum WrongValue<'a> {
     },
     /// The argument is not `NAME@HOST:PORT` with a valid name and port.
     Player(&'a str),
-    /// The value is neither `IP:PORT` nor `unix:PATH`.
-    Address(&'a str),
 }
 
 /// Why a command line is refused.
@@ -122,79 +113,19 @@ fn limits(found: &ArgMatches<'_>) -> Limits {
     }
 }
 
-/// The game's source. The command line must have exactly one of the options that name a source, once.
+/// The game's source. The command line must have exactly one of the options that name a source.
 fn game_source<'a>(found: &ArgMatches<'a>) -> Result<GameSource<'a>, WrongValue<'a>> {
     let limits = limits(found);
-    // Only `desk` accepts the option several times.
-    let files = found.get_strs("rules-file").unwrap_or(&[]);
     let size = found.get_str("countdown");
-    match (size, found.get_str("rules"), files.first()) {
+    match (size, found.get_str("rules"), found.get_str("rules-file")) {
         (Some(_), None, None) => {
             let size = number(found, "countdown", 1, 100)?;
             Ok(GameSource::Countdown(size as u8))
         }
         (None, Some(text), None) => Ok(GameSource::Described(RulesSource::Text(text), limits)),
-        (None, None, Some(path)) if files.len() == 1 => {
-            Ok(GameSource::Described(RulesSource::File(*path), limits))
-        }
+        (None, None, Some(path)) => Ok(GameSource::Described(RulesSource::File(path), limits)),
         _ => Err(WrongValue::Game),
     }
-}
-
-/// The sources of the games of a served desk: a file for each game, or the source of the only game.
-fn game_sources<'a>(
-    alloc: Global,
-    found: &ArgMatches<'a>,
-) -> Result<Vec<GameSource<'a>>, ArgumentFault<'a>> {
-    let files = found.get_strs("rules-file").unwrap_or(&[]);
-    let mut sources = Vec::new(alloc);
-    if files.len() <= 1 {
-        sources.push(game_source(found)?)?;
-        return Ok(sources);
-    }
-    if found.get_str("countdown").is_some() || found.get_str("rules").is_some() {
-        return Err(ArgumentFault::Value(WrongValue::Game));
-    }
-    for path in files {
-        sources.push(GameSource::Described(RulesSource::File(*path), limits(found)))?;
-    }
-    Ok(sources)
-}
-
-/// The address of `--listen`.
-fn listen_address(word: &str) -> Result<ListenAddress<'_>, WrongValue<'_>> {
-    match word.strip_prefix("unix:") {
-        Some("") => Err(WrongValue::Address(word)),
-        Some(path) => Ok(ListenAddress::Unix(path)),
-        None => match word.parse::<SocketAddr>() {
-            Ok(address) => Ok(ListenAddress::Network(address)),
-            Err(_) => Err(WrongValue::Address(word)),
-        },
-    }
-}
-
-/// The number of lines of a served desk.
-fn lines<'a>(found: &ArgMatches<'a>) -> Result<u32, WrongValue<'a>>
-    ensures { IfOk result (λ lines. (1 ≤ lines) × (lines ≤ 64)) }
-{
-    match found.get_str("lines") {
-        Some(_) => Ok(number(found, "lines", 1, MAX_SERVED_LINES)? as u32),
-        None => Ok(USUAL_SERVED_LINES),
-    }
-}
-
-fn service_plan<'a>(
-    alloc: Global,
-    found: &ArgMatches<'a>,
-    word: &'a str,
-) -> Result<ServicePlan<'a>, ArgumentFault<'a>> {
-    Ok(ServicePlan {
-        address: listen_address(word)?,
-        lines: lines(found)?,
-        games: game_sources(alloc, found)?,
-        history: found.get_str("history"),
-        records: found.get_str("records"),
-    })
 }
 
 fn player(word: &str) -> Result<PlayerAddress<'_>, WrongValue<'_>> {
@@ -362,28 +293,16 @@ fn shown<'a>(alloc: Global, error: clap::Error) -> Result<Task<'a>, ArgumentFaul
     }
 }
 
-/// The service or the task of a command.
-fn invocation<'a>(
-    alloc: Global,
-    name: &str,
-    found: &ArgMatches<'a>,
-) -> Result<Invocation<'a>, ArgumentFault<'a>> {
-    match (name, found.get_str("listen")) {
-        ("desk", Some(word)) => Ok(Invocation::Service(service_plan(alloc, found, word)?)),
-        _ => Ok(Invocation::Task(task(alloc, name, found)?)),
-    }
-}
-
 /// Reads the arguments after the program's name.
 pub fn read_arguments<'a>(
     alloc: Global,
     words: &'a [&'a str],
-) -> Result<Invocation<'a>, ArgumentFault<'a>> {
+) -> Result<Task<'a>, ArgumentFault<'a>> {
     match program(alloc)?.try_get_matches_from(words) {
         Ok(found) => match found.subcommand() {
-            Some((name, found)) => invocation(alloc, name, found),
+            Some((name, found)) => task(alloc, name, found),
             None => Err(ArgumentFault::Form),
         },
-        Err(error) => Ok(Invocation::Task(shown(alloc, error)?)),
+        Err(error) => shown(alloc, error),
     }
 }

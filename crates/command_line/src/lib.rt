@@ -1,6 +1,6 @@
 //! The command line of `ggp_manager`.
 //!
-//! `read_arguments` turns the arguments into an `Invocation`, and `refusal` turns an `ArgumentFault` into a message for the user. Free functions
+//! `read_arguments` turns the arguments into a `Task`, and `refusal` turns an `ArgumentFault` into a message for the user. Free functions
 //! take the allocator first.
 #![tactic(auto)]
 
@@ -13,6 +13,5 @@ pub use arguments::{ArgumentFault, WrongValue, read_arguments};
 pub use program::VERSION;
 pub use refusals::{asks_why, has_own_word, refusal};
 pub use tasks::{
-    AbortPlan, GameOptions, GameRequest, InfoPlan, Invocation, ListenAddress, MatchTask, RunPlan,
-    SeasonPlan, ServicePlan, Task,
+    AbortPlan, GameOptions, GameRequest, InfoPlan, MatchTask, RunPlan, SeasonPlan, Task,
 };

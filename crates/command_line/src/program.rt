@@ -18,12 +18,6 @@ enum Form {
     Required(&'static str),
     /// An optional option, with the name of its value and its default.
     Default(&'static str, &'static str),
-    /// An optional option that may be given several times, with the name of its value.
-    Repeated(&'static str),
-    /// The address of a service.
-    Listen,
-    /// An optional option of a service, with the name of its value.
-    OfService(&'static str),
     Flag,
     /// A positional argument with this name.
     Word(&'static str),
@@ -41,29 +35,11 @@ struct Argument {
 }
 
 impl Argument {
-    /// Builds the argument for `clap`.
-    fn arg<'a>(self, alloc: Global) -> Result<Arg<'a>, AllocError> {
-        let arg = self.free_arg(alloc);
-        match self.form {
-            Form::Listen => arg.conflicts_with("interactive")?.conflicts_with("file"),
-            Form::OfService(_) => arg.requires_arg("listen"),
-            _ => Ok(arg),
-        }
-    }
-
-    /// The argument without its relations to others.
-    fn free_arg<'a>(self, alloc: Global) -> Arg<'a> {
+    fn arg<'a>(self, alloc: Global) -> Arg<'a> {
         let arg = Arg::new(alloc, self.name).help(self.help);
         let place = "NAME@HOST:PORT";
         match self.form {
-            Form::Value(value) | Form::OfService(value) => arg
-                .long(self.name)
-                .value_name(value)
-                .action(ArgAction::Set),
-            Form::Listen => arg
-                .long(self.name)
-                .value_name("ADDRESS")
-                .action(ArgAction::Set),
+            Form::Value(value) => arg.long(self.name).value_name(value).action(ArgAction::Set),
             Form::Required(value) => arg
                 .long(self.name)
                 .value_name(value)
@@ -74,10 +50,6 @@ impl Argument {
                 .value_name(value)
                 .action(ArgAction::Set)
                 .default_value(default),
-            Form::Repeated(value) => arg
-                .long(self.name)
-                .value_name(value)
-                .action(ArgAction::Append),
             Form::Flag => arg.long(self.name).action(ArgAction::SetTrue),
             Form::Word(word) => arg.value_name(word).required(true).action(ArgAction::Set),
             Form::File => arg.value_name("FILE").action(ArgAction::Set),
@@ -163,40 +135,16 @@ const PLAYER: Argument = Argument {
     help: "The player to ask",
 };
 
-const DESK: [Argument; 11] = [
+const DESK: [Argument; 7] = [
     COUNTDOWN,
     RULES,
-    Argument {
-        name: "rules-file",
-        form: Form::Repeated("FILE"),
-        help: "Play the game of the ground GDL file FILE; with --listen it may be given several times, and games are numbered from 0",
-    },
+    RULES_FILE,
     LARGE,
     WHY,
     Argument {
         name: "interactive",
         form: Form::Flag,
         help: "Answer each line of the script before reading the next, for a program that talks to the desk over a pipe",
-    },
-    Argument {
-        name: "listen",
-        form: Form::Listen,
-        help: "Answer clients that connect to IP:PORT or unix:PATH, until standard input ends",
-    },
-    Argument {
-        name: "lines",
-        form: Form::OfService("N"),
-        help: "Maximum number of simultaneous connections (1 to 64) [default: 8]",
-    },
-    Argument {
-        name: "history",
-        form: Form::OfService("FILE"),
-        help: "At the end write the call log to FILE, which must not exist yet",
-    },
-    Argument {
-        name: "records",
-        form: Form::OfService("FILE"),
-        help: "At the end add the records to FILE",
     },
     Argument {
         name: "file",
@@ -359,22 +307,20 @@ impl CommandForm {
             .about(self.about)
             .after_help(self.notes);
         for argument in self.arguments {
-            command = command.arg(argument.arg(alloc)?)?;
+            command = command.arg(argument.arg(alloc))?;
         }
         Ok(command)
     }
 }
 
-/// The commands in the order of the help, in two parts, because the prover limits the size of a constant.
-static FIRST_COMMANDS: [CommandForm; 3] = [
+static COMMANDS: [CommandForm; 8] = [
     CommandForm {
         name: "desk",
         about: "Runs a script of calls, and prints the replies and the records",
         arguments: &DESK,
         notes: concat!(
             "Example: ggp_manager desk --countdown 3 match.script\n\n",
-            "Example: ggp_manager desk --rules-file game.kif --listen 127.0.0.1:9000 --history calls --records records\n\n",
-            "status 0: every line is a call, or the service has ended. 1: a line is not a call, or another error. ",
+            "status 0: every line is a call. 1: a line is not, or another error. ",
             "2: usage error. 3: out of memory. With --why 1: a line is not a call. 2: any other error.",
         ),
     },
@@ -399,9 +345,6 @@ static FIRST_COMMANDS: [CommandForm; 3] = [
             "2: usage error. 3: out of memory. With --why 2: any error.",
         ),
     },
-];
-
-static OTHER_COMMANDS: [CommandForm; 5] = [
     CommandForm {
         name: "verify",
         about: "Checks whether a record is lawful",
@@ -454,24 +397,13 @@ static OTHER_COMMANDS: [CommandForm; 5] = [
     },
 ];
 
-fn first_forms() -> &'static [CommandForm] {
-    &FIRST_COMMANDS
-}
-
-fn other_forms() -> &'static [CommandForm] {
-    &OTHER_COMMANDS
-}
-
-fn form_among(forms: &[CommandForm], name: &str) -> Option<CommandForm> {
-    forms.iter().find(|form| form.name == name).copied()
+fn forms() -> &'static [CommandForm] {
+    &COMMANDS
 }
 
 /// The command with this name.
 pub fn form_named(name: &str) -> Option<CommandForm> {
-    match form_among(first_forms(), name) {
-        Some(form) => Some(form),
-        None => form_among(other_forms(), name),
-    }
+    forms().iter().find(|form| form.name == name).copied()
 }
 
 /// Builds the whole command line for `clap`.
@@ -482,10 +414,7 @@ pub fn program<'a>(alloc: Global) -> Result<Command<'a>, AllocError> {
         .no_binary_name(true)
         .subcommand_required(true)
         .bin_name(PROGRAM)?;
-    for form in first_forms() {
-        program = program.subcommand(form.command(alloc)?)?;
-    }
-    for form in other_forms() {
+    for form in forms() {
         program = program.subcommand(form.command(alloc)?)?;
     }
     Ok(program)

@@ -9,7 +9,7 @@ use std::alloc::{AllocError, Global};
 const OWN_COMMANDS: [&str; 4] = ["season", "check", "replay", "abort"];
 
 /// The options that have the same effect.
-const OWN_OPTIONS: [&str; 8] = [
+const OWN_OPTIONS: [&str; 7] = [
     "--rules-file",
     "--large",
     "--player-rules",
@@ -17,7 +17,6 @@ const OWN_OPTIONS: [&str; 8] = [
     "--lines",
     "--log",
     "--history",
-    "--listen",
 ];
 
 const FORMER_PLAYER_RULES: &str = "--told";
@@ -73,9 +72,6 @@ fn words_of(alloc: Global, command: &str, wrong: WrongValue<'_>) -> Result<Strin
             limit,
         } => format!(in alloc;
             "invalid value '{value}' for '--{option}': digits are needed, for a number from {least} to {limit}"
-        ),
-        WrongValue::Address(word) => format!(in alloc;
-            "invalid value '{word}' for '--listen': IP:PORT or unix:PATH is needed"
         ),
         WrongValue::Player(word) => format!(in alloc;
             "invalid value '{word}' for a player: NAME@HOST:PORT is needed, with a lawful name and a port from 1 to 65535"

@@ -1,16 +1,6 @@
 //! The task that a command line asks for.
-ghost use Rattle.std.specs.Prelude.{◌≤◌};
 
 use match_plans::{CheckPlan, GameSource, GameTask, MatchPlan, PlayerAddress, SeasonForm};
-use std::net::SocketAddr;
-
-/// What a command line asks for.
-#[derive(Drop)]
-pub enum Invocation<'a> {
-    Task(Task<'a>),
-    /// A desk that clients call over connections.
-    Service(ServicePlan<'a>),
-}
 
 /// What the program should do. The texts borrow from the command line.
 #[derive(Drop)]
@@ -35,29 +25,6 @@ pub struct GameRequest<'a> {
     pub is_json: bool,
     /// Whether `desk` answers each line before it reads the next one.
     pub is_interactive: bool,
-}
-
-/// Where a service listens.
-#[derive(Clone, Copy)]
-pub enum ListenAddress<'a> {
-    Network(SocketAddr),
-    /// The path of a socket file.
-    Unix(&'a str),
-}
-
-/// How to serve a desk over connections.
-#[derive(Drop)]
-pub struct ServicePlan<'a> {
-    pub address: ListenAddress<'a>,
-    /// The number of lines of the desk, which is the largest number of simultaneous connections.
-    pub lines: u32,
-    ghost few: { (1 ≤ lines) × (lines ≤ 64) },
-    /// The games of the desk, by their numbers.
-    pub games: Vec<GameSource<'a>>,
-    /// The file for the call log, which must not exist.
-    pub history: Option<&'a str>,
-    /// The file that the records are appended to.
-    pub records: Option<&'a str>,
 }
 
 /// The player to ask, and whether to print its answer as JSON.

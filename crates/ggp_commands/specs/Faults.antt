@@ -13,8 +13,6 @@ use Rattle.command_line.specs.declared.tasks.MatchTask.{MatchTask}
 use Rattle.command_line.specs.declared.tasks.MatchTask.TheVariants.{Check}
 use Rattle.command_line.specs.declared.arguments.ArgumentFault.{ArgumentFault}
 use Rattle.command_line.specs.declared.arguments.ArgumentFault.TheVariants.{Memory as ArgumentMemory}
-use Rattle.ggp_commands.specs.declared.failure.Failure.{Failure}
-use Rattle.ggp_commands.specs.declared.failure.Failure.TheVariants.{Fault as OfCommand, Listen, History}
 use Rattle.command_faults.specs.declared.fault.Fault.{Fault}
 use Rattle.command_faults.specs.declared.fault.Fault.TheVariants.{WrongUse, Memory, WriteFault, NoAnswer, NotSent, Refused, MatchNotEnded, Shortage, NoRecords, NotLawful, UnlawfulRecords, NoEntry, Differs, BadLines, BadAnswers}
 use Rattle.command_faults.specs.Faults.{status_of as plain_status}
@@ -34,14 +32,6 @@ is_no fault = false
 abbrev pub status_of : Bool → Fault → ℕ
 status_of false fault = plain_status fault
 status_of true fault = if is_no fault then 1 else 2
-
--- the exit status for a failure
-abbrev pub failure_status : Bool → Failure → ℕ
-failure_status why (OfCommand fault) = status_of why fault
-failure_status true (Listen fault) = 2
-failure_status true (History fault) = 2
-failure_status false (Listen fault) = 1
-failure_status false (History fault) = 1
 
 abbrev pub argument_fault : ArgumentFault → Fault
 argument_fault ArgumentMemory = Memory

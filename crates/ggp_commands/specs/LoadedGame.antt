@@ -8,7 +8,6 @@ use Rattle.described_games.specs.Games.{IsDescribed}
 use Rattle.packed_rules.specs.PackedGames.{sentences_of}
 use Rattle.packed_rules.specs.declared.packed_game.PackedGame.{PackedGame}
 use Rattle.command_line.specs.declared.tasks.GameOptions.{GameOptions}
-use Rattle.match_plans.specs.declared.game_source.GameSource.{GameSource}
 use Rattle.game_commands.specs.Commands.{HasNoSourceText, IsRefused, IsSourceText, limits_of}
 use Rattle.command_faults.specs.declared.fault.Fault.{Fault}
 use Rattle.command_faults.specs.declared.fault.Fault.TheVariants.{BadPlayerRules, Memory}
@@ -22,10 +21,6 @@ AreSpelled text rules = (sentences : Expressions) × SpellsAll text sentences ×
 -- the printed sentences of the game, or, if a file of other rules is named, those of some text
 abbrev pub AreRulesFor : {F : Type 0} → Option F → PackedGame → List ℕ → Type 0
 AreRulesFor player_rules game rules = MatchOption player_rules (rules ≡ rules_text (expressions (sentences_of game))) (λ file. (text : List ℕ) × AreSpelled text rules)
-
--- a game of this source; a file may contain any text
-abbrev pub IsGameOf : GameSource → PackedGame → Type 0
-IsGameOf source game = (text : List ℕ) × IsSourceText source text × IsDescribed (limits_of source) text game
 
 -- The game is the one that the options describe, and these are the rules for its players. A file may contain any text.
 abbrev pub IsLoadedGame : GameOptions → PackedGame → List ℕ → Type 0

@@ -4,23 +4,19 @@ ghost use Rattle.std.specs.Io.KnownBytes.{Appends};
 ghost use Rattle.match_log.specs.LoggedPlayers.{is_logged_reached, logged_handed};
 ghost use Rattle.whole_streams.specs.Streams.{AppendsPart};
 ghost use Rattle.command_faults.specs.declared.fault.Fault.TheVariants.{WriteFault};
-ghost use Rattle.ggp_commands.specs.Faults.{failure_status, status_of};
+ghost use Rattle.ggp_commands.specs.Faults.{status_of};
 ghost use Rattle.ggp_commands.specs.LoadedGame.{IsLoadedGame};
 ghost use Rattle.ggp_commands.specs.Tasks.{Fails, FailsToPlay, IsNotBegun, Performs, Plays, ReadsInput};
 
 use crate::explaining::{Subject, explain};
-use crate::failure::Failure;
 use crate::faults::{argument_fault, command_end, status_of, task_end};
 use crate::loaded_game::{LoadedGame, load};
 use crate::log_target::{LogTarget, log_target};
 use crate::matches::{ReadyTask, input_of, play_with_reports};
-use crate::serving::{ServiceStreams, serve};
 use crate::shared_files::{refuse_shared, tell_file};
 use crate::surroundings::Surroundings;
 use command_faults::Fault;
-use command_line::{
-    GameOptions, Invocation, MatchTask, Task, has_own_word, read_arguments, refusal,
-};
+use command_line::{GameOptions, MatchTask, Task, has_own_word, read_arguments, refusal};
 use game_commands::{Evidence, for_game};
 use game_core::Counted;
 use match_log::WriterBrand;
@@ -33,7 +29,6 @@ use std::alloc::{AllocError, Global};
 use std::fmt::Write as _;
 use std::io::{Read, Write};
 use std::marker::Brand;
-use std::net::{Net, TcpListener, TcpStream};
 use std::rt::Files;
 use std::sync::Wait;
 use std::thread::Threads;
@@ -59,7 +54,6 @@ pub fn command<H, S, R: Read, W: Write, E: Write + Send + Drop>(
 ) -> u8
 where
     H: Resolves + Clock + LockedFiles + Threads + Wait + Sync,
-    H: Net<Listener = TcpListener, Stream = TcpStream>,
     H::File: Send,
     S: Reach + ReportsShortages + Sync,
     S::Player: Player + Explains + Drop + Send,
@@ -68,9 +62,12 @@ where
         errors,
         evidence: Evidence::Nothing,
     };
-    let done = match texts(around.alloc, words) {
-        Ok(words) => perform_words(around, &words, reader, writer, &mut reports),
-        Err(AllocError) => Err(Failure::Fault(Fault::Memory)),
+    let performed = match texts(around.alloc, words) {
+        Ok(words) => match task_of(around.alloc, &words, &mut reports.evidence) {
+            Ok(task) => { perform::<H, S, R, W, E>(around, &task, reader, writer, &mut reports) }
+            Err(fault) => Err(fault),
+        },
+        Err(AllocError) => Err(Fault::Memory),
     };
     let Reports {
         mut errors,
@@ -83,38 +80,7 @@ where
         &Subject::Evidence(&evidence),
         &mut errors,
     );
-    end(done, around.terminals.why, &mut errors)
-}
-
-/// Runs the task or the service of these arguments.
-fn perform_words<H, S, R: Read, W: Write, E: Write + Send>(
-    around: &Surroundings<'_, H, S>,
-    words: &[&str],
-    reader: &mut Counted<R>,
-    writer: &mut Counted<W>,
-    reports: &mut Reports<E>,
-) -> Result<(), Failure>
-where
-    H: Resolves + Clock + LockedFiles + Threads + Wait + Sync,
-    H: Net<Listener = TcpListener, Stream = TcpStream>,
-    H::File: Send,
-    S: Reach + ReportsShortages + Sync,
-    S::Player: Player + Explains + Drop + Send,
-{
-    match invocation_of(around.alloc, words, &mut reports.evidence)? {
-        Invocation::Task(task) => Ok(perform::<H, S, R, W, E>(
-            around, &task, reader, writer, reports,
-        )?),
-        Invocation::Service(plan) => {
-            let Reports { errors, evidence } = reports;
-            let mut streams = ServiceStreams {
-                reader,
-                writer,
-                errors,
-            };
-            serve(around.rt, around.alloc, &plan, &mut streams, evidence)
-        }
-    }
+    end(performed, around.terminals.why, &mut errors)
 }
 
 /// Runs a task, unless it uses one file in two ways that conflict. Reports which file an error is about.
@@ -146,17 +112,13 @@ fn texts<'a>(alloc: Global, words: &'a [String]) -> Result<Vec<&'a str>, AllocEr
 }
 
 /// Reports the error of a command, if it has one. Returns the exit status.
-fn end<E: Write>(done: Result<(), Failure>, why: bool, errors: &mut E) -> u8
-    ensures none { OnOk done (result ≡ 0) }
-    ensures some { IfErr done (λ failure. result ≡ failure_status why failure) }
+fn end<E: Write>(performed: Result<(), Fault>, why: bool, errors: &mut E) -> u8
+    ensures none { OnOk performed (result ≡ 0) }
+    ensures some { IfErr performed (λ fault. result ≡ status_of why fault) }
 {
-    match done {
+    match performed {
         Ok(()) => 0,
-        Err(failure) => {
-            let mut pieces = Pieces { stream: errors };
-            let _ = writeln!(pieces, "ggp_manager: {failure}");
-            failure.status(why)
-        }
+        Err(fault) => report(errors, fault, why),
     }
 }
 
@@ -170,14 +132,14 @@ pub fn report<E: Write>(errors: &mut E, fault: Fault, why: bool) -> u8
     status_of(fault, why)
 }
 
-/// What these arguments ask for. If they are refused, stores the message as evidence.
-fn invocation_of<'a>(
+/// The task of these arguments. If they are refused, stores the message as evidence.
+fn task_of<'a>(
     alloc: Global,
     words: &'a [&'a str],
     evidence: &mut Evidence,
-) -> Result<Invocation<'a>, Fault> {
+) -> Result<Task<'a>, Fault> {
     match read_arguments(alloc, words) {
-        Ok(invocation) => Ok(invocation),
+        Ok(task) => Ok(task),
         Err(fault) => {
             let refused = argument_fault(fault);
             if let Fault::WrongUse = refused {

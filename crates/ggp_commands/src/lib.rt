@@ -8,13 +8,11 @@
 mod commands;
 mod descriptors;
 mod explaining;
-mod failure;
 mod faults;
 mod loaded_game;
 mod log_target;
 mod matches;
 mod records_file;
-mod serving;
 mod shared_files;
 mod surroundings;
 

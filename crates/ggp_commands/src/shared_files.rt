@@ -1,7 +1,7 @@
 //! The files and streams of a command: finds files that are used in two ways, and says which file an error is about.
 
 use command_faults::{Fault, FileFault, NamedFile, Printable, tell_of_file};
-use command_line::{GameOptions, MatchTask, SeasonPlan, ServicePlan, Task};
+use command_line::{GameOptions, MatchTask, SeasonPlan, Task};
 use match_plans::{GameCommand, GameSource, GameTask, RulesSource};
 use process_streams::{ERRORS, INPUT, OUTPUT, is_one_file};
 use std::alloc::{AllocError, Global};
@@ -23,7 +23,6 @@ enum Role {
     Done,
     Records,
     Log,
-    History,
 }
 
 impl Role {
@@ -38,7 +37,6 @@ impl Role {
             Role::Done => "the file of --done",
             Role::Records => "the file of --records",
             Role::Log => "the file of --log",
-            Role::History => "the file of --history",
         }
     }
 
@@ -48,7 +46,7 @@ impl Role {
             Role::Rules => NamedFile::Rules,
             Role::PlayerRules => NamedFile::PlayerRules,
             Role::Done | Role::Records => NamedFile::Records,
-            Role::Log | Role::History => NamedFile::Log,
+            Role::Log => NamedFile::Log,
             Role::Input | Role::Output | Role::Errors | Role::NamedInput => NamedFile::Input,
         }
     }
@@ -56,7 +54,7 @@ impl Role {
     fn is_written(self) -> bool {
         matches!(
             self,
-            Role::Output | Role::Errors | Role::Records | Role::Log | Role::History
+            Role::Output | Role::Errors | Role::Records | Role::Log
         )
     }
 }
@@ -135,19 +133,6 @@ fn used_by<'a>(alloc: Global, task: &Task<'a>) -> Result<Vec<Used<'a>>, AllocErr
     Ok(used)
 }
 
-/// The files and streams that a service uses.
-fn used_by_service<'a>(alloc: Global, plan: &ServicePlan<'a>) -> Result<Vec<Used<'a>>, AllocError> {
-    let mut used = Vec::new(alloc);
-    push(&mut used, Role::Output, Some(OUTPUT))?;
-    push(&mut used, Role::Errors, Some(ERRORS))?;
-    for game in &plan.games {
-        push(&mut used, Role::Rules, rules_file(*game))?;
-    }
-    push(&mut used, Role::Records, plan.records)?;
-    push(&mut used, Role::History, plan.history)?;
-    Ok(used)
-}
-
 /// Whether the file at this path is empty. The shell creates or empties the file after `>` before the program begins.
 fn is_empty<F: Files>(files: &F, path: &str) -> bool {
     match fs::metadata(files, path) {
@@ -194,20 +179,7 @@ pub fn refuse_shared<F: Files, E: Write>(
     task: &Task<'_>,
     errors: &mut E,
 ) -> Result<(), Fault> {
-    refuse(files, &used_by(alloc, task)?, errors)
-}
-
-/// Refuses a service in the same cases.
-pub fn refuse_shared_by_service<F: Files, E: Write>(
-    files: &F,
-    alloc: Global,
-    plan: &ServicePlan<'_>,
-    errors: &mut E,
-) -> Result<(), Fault> {
-    refuse(files, &used_by_service(alloc, plan)?, errors)
-}
-
-fn refuse<F: Files, E: Write>(files: &F, used: &[Used<'_>], errors: &mut E) -> Result<(), Fault> {
+    let used = used_by(alloc, task)?;
     for (place, other) in used.iter().enumerate() {
         for one in &used[..place] {
             if are_at_odds(files, *one, *other) {

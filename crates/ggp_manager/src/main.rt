@@ -13,7 +13,6 @@ use process_streams::{
 };
 use std::alloc::Global;
 use std::io::{ErrorKind, IsTerminal, Read, Write};
-use std::net::{Net, TcpListener, TcpStream};
 use std::os::fd::AsFd;
 use std::process::ExitCode;
 use std::sync::{Arc, Wait};
@@ -68,7 +67,6 @@ fn perform<H, S, I: Read + Drop, O: Write + Drop, E: Write + Send + Drop>(
 ) -> u8
 where
     H: Resolves + Clock + LockedFiles + Threads + Wait + Sync,
-    H: Net<Listener = TcpListener, Stream = TcpStream>,
     H::File: Send,
     S: Reach + ReportsShortages + Sync,
     S::Player: Player + Explains + Drop + Send,

@@ -1,4 +1,0 @@
-mod AnsweredRows
-mod Sent
-mod ServedLines
-mod Written
