@@ -20,7 +20,6 @@ from ggp_tools.competition.player_pages import Appearance, appearances_of, page_
 from ggp_tools.competition.plots import rating_plot
 from ggp_tools.competition.results import WON, Result, remarks, winner_words
 from ggp_tools.competition.round_pages import bracket_part, count_of_all, round_text, rounds_part, rounds_words
-from ggp_tools.competition.schedule import Match
 from ggp_tools.competition.side_by_side import made_side_by_side
 from ggp_tools.competition.table import Table, loaded_ratings, tables_of
 from ggp_tools.competition.table_text import crosstable_rows, forfeit_rule, method_of, notes, standings_rows, without_record
