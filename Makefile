@@ -25,7 +25,7 @@ help:
 	@echo '  make unit [NAME [TEST]]  the unit tests, those of a crate of tests/unit, or its tests whose names contain TEST'
 	@echo '  make check [NAME..]    proves the crates, over cached proofs'
 	@echo '  make mutations [NAME..]  tries the mutations of the crates: the prover must refuse each'
-	@echo '  make memory            has each allocation refused in turn'
+	@echo '  make memory            refuses each allocation in turn'
 	@echo '  make prove             proves everything, and tries the must-fail edits'
 	@echo '  make budget            what the proof of each crate costs'
 	@echo '  make gate              make test, make lint, make prove, and the tests of the proved program'

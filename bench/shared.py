@@ -1,4 +1,4 @@
-"""Shared by the measuring scripts."""
+"""Code that the measuring scripts share."""
 import argparse
 import contextlib
 import os

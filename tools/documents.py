@@ -113,7 +113,7 @@ def without_targets(cell):
 
 
 def indexed(part):
-    """Returns the crate in a part of a cell of the index, and the part as it is in the crate's own table; or None."""
+    """Returns the crate that a part of a cell of the index names, and the part as the crate's own table has it; or None."""
     match = INDEXED.fullmatch(part)
     return (match[2], f"`{match[1]}`{match[3]}") if match else None
 

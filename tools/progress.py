@@ -17,7 +17,7 @@ def by_lines(lines: dict[str, int]) -> dict[str, float]:
 
 
 def by_megabytes(names: list[str], megabytes: dict[str, int]) -> dict[str, float]:
-    """Returns the estimated seconds of each crate's proof by its budget. A crate without a budget counts as the mean."""
+    """Returns the estimated seconds of each crate's proof, from its budget. A crate without a budget counts as an average one."""
     mean = sum(megabytes.values()) / max(len(megabytes), 1)
     return {name: SECONDS_A_CRATE + SECONDS_A_MEGABYTE * megabytes.get(name, mean) for name in names}
 

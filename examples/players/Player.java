@@ -51,7 +51,7 @@ public class Player {
 
     public static void main(String[] arguments) throws Exception {
         // Half a message blocks the player for at most this many seconds. A message that waits for an earlier answer is closed after this time
-        // too, so make it longer than the play clock.
+        // too, so make it longer than both clocks of the match.
         System.setProperty("sun.net.httpserver.maxReqTime", "20");
         HttpServer server = HttpServer.create(new InetSocketAddress(Integer.parseInt(arguments[0])), 0);
         // One thread, so that messages are processed in their order. Its stack of 256 MiB is for rules that depend on one another in

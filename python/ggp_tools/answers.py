@@ -87,8 +87,8 @@ class Illegal:
 
 
 class Whys:
-    """Returns the text that a page adds to a replaced move: the legal moves, or why the answer is not an expression. `answers` are by role and turn.
-    Without a game, the text does not mention legal moves."""
+    """Returns the text that a page adds to a replaced move: the legal moves, or why the answer is not an expression. `answers` has the answers that
+    are not expressions, by role and turn. Without a game, the text does not mention legal moves."""
 
     def __init__(self, record: dict, game: Callable[[], Game] | None, answers: dict[tuple[int, int], str]) -> None:
         self.illegal, self.left = game and Illegal(record["states"], record["roles"], game), MOST_TOLD

@@ -1,10 +1,13 @@
-"""Talks to `ggp_manager desk --interactive`: makes calls on a desk of matches, and returns each reply. `docs/DESK.md` has examples."""
+"""Makes calls on a desk of matches, and returns each reply. The desk is `ggp_manager desk --interactive`, which this module starts, or
+`ggp_manager desk --listen` at an address. `docs/DESK.md` has examples."""
 
 import asyncio
+import contextlib
 import re
+import socket
 import subprocess
 import threading
-from collections.abc import Sequence
+from collections.abc import Callable, Sequence
 from dataclasses import dataclass
 from typing import Self
 
@@ -53,7 +56,7 @@ class Refused(Exception):
 
 
 class DeskEnded(Exception):
-    """The program has ended without a reply, or with an error. It has written the reason to standard error."""
+    """The desk has ended without a reply, or with an error. Its program has written the reason to standard error."""
 
 
 def word(value: str | int) -> str:
@@ -65,26 +68,71 @@ def word(value: str | int) -> str:
     return str(value)
 
 
+class Pipe:
+    """A desk that this process starts and ends."""
+
+    def __init__(self, words: list[str]) -> None:
+        self.process = subprocess.Popen(words, stdin=subprocess.PIPE, stdout=subprocess.PIPE)
+        self.replies, self.cut = self.process.stdout, self.process.kill
+
+    def send(self, row: bytes) -> None:
+        self.process.stdin.write(row)
+        self.process.stdin.flush()
+
+    def end(self) -> tuple[list[str], int]:
+        """Returns the records and the exit status."""
+        output, _ = self.process.communicate()
+        return [record.decode() for record in output.splitlines()], self.process.returncode
+
+
+class Connection:
+    """A connection to a desk that listens at an address. The desk outlives the connection, and keeps the records."""
+
+    def __init__(self, address: str) -> None:
+        if address.startswith("unix:"):
+            self.socket = socket.socket(socket.AF_UNIX)
+            self.socket.connect(address.removeprefix("unix:"))
+        else:
+            host, _, port = address.rpartition(":")
+            self.socket = socket.create_connection((host.strip("[]"), int(port)))
+        self.replies, self.send = self.socket.makefile("rb"), self.socket.sendall
+
+    def cut(self) -> None:
+        with contextlib.suppress(OSError):
+            self.socket.shutdown(socket.SHUT_RDWR)
+
+    def end(self) -> tuple[list[str], int]:
+        self.replies.close()
+        self.socket.close()
+        return [], 0
+
+
 class Desk:
-    """A desk of one game. `options` are those of the command `desk`, for example `--countdown=3`. At the end of `with`, `records` has the record of
-    each match, in the order of opening.
+    """A desk of one game, in a program that begins and ends with `with`. `options` are those of the command `desk`, for example `--countdown=3`. At
+    the end of `with`, `records` has the record of each match, in the order of opening. `Desk.connect` returns a desk that many clients share.
 
     The methods block, and threads may share a desk. In asyncio, use `async with` and call `await asyncio.to_thread(desk.next, "m1", 0)`."""
 
     def __init__(self, *options: str, program: str | None = None) -> None:
-        self.words = [find_program(program), "desk", "--interactive", *options]
+        self.start: Callable[[], Pipe | Connection] = lambda: Pipe([find_program(program), "desk", "--interactive", *options])
         self.lock, self.records = threading.Lock(), list[str]()
 
+    @classmethod
+    def connect(cls, address: str) -> Self:
+        """Returns the desk that listens at `HOST:PORT` or `unix:PATH`. `with` opens and closes a connection; `records` stays empty."""
+        desk = cls()
+        desk.start = lambda: Connection(address)
+        return desk
+
     def __enter__(self) -> Self:
-        self.process = subprocess.Popen(self.words, stdin=subprocess.PIPE, stdout=subprocess.PIPE)
+        self.transport = self.start()
         return self
 
     def __exit__(self, *why: object) -> None:
         with self.lock:
-            output, _ = self.process.communicate()
-        self.records = [record.decode() for record in output.splitlines()]
-        if self.process.returncode and why[0] is None:
-            raise DeskEnded(f"`{PROGRAM} desk` ended with status {self.process.returncode}")
+            self.records, status = self.transport.end()
+        if status and why[0] is None:
+            raise DeskEnded(f"`{PROGRAM} desk` ended with status {status}")
 
     async def __aenter__(self) -> Self:
         return await asyncio.to_thread(self.__enter__)
@@ -93,24 +141,26 @@ class Desk:
         await asyncio.to_thread(self.__exit__, *why)
 
     def reply(self, call: str) -> str:
-        """Makes the call in one row of a script, and returns the row with the reply. An exception that interrupts this method ends the desk."""
+        """Makes the call in one row of a script, and returns the row with the reply. An exception that interrupts this method ends the desk, or the
+        connection to it."""
         if not TEXT.fullmatch(call):
             raise ValueError(f"expected a call without line breaks, found {call!r}")
         with self.lock:
             try:
-                self.process.stdin.write(call.encode("utf-8", "surrogateescape") + b"\n")
-                self.process.stdin.flush()
-                reply = self.process.stdout.readline().decode("utf-8", "surrogateescape")
+                self.transport.send(call.encode("utf-8", "surrogateescape") + b"\n")
+                reply = self.transport.replies.readline().decode("utf-8", "surrogateescape")
             except BaseException as why:
-                self.process.kill()
-                if isinstance(why, BrokenPipeError):
-                    raise DeskEnded(f"`{PROGRAM} desk` ended before `{call}`") from None
-                raise
+                self.transport.cut()
+                if not isinstance(why, ConnectionError):
+                    raise
+                reply = ""
+        if not reply.endswith("\n"):
+            raise DeskEnded(f"the desk ended before it replied to `{call}`")
         match reply.split():
-            case []:
-                raise DeskEnded(f"`{PROGRAM} desk` ended before it replied to `{call}`")
             case ["badline"]:
                 raise ValueError(f"`{call}` is not a call")
+            case ["full" | "memory" | "toolong"]:
+                raise DeskEnded(f"the desk closes the connection instead of replying to `{call}`: {reply.rstrip()}")
             case ["refused", reason, *round_]:
                 raise Refused(call, reason, int(round_[0]) if round_ else None)
         return reply.rstrip("\n")
@@ -118,9 +168,9 @@ class Desk:
     def make(self, *words: str | int) -> str:
         return self.reply(" ".join(map(word, words)))
 
-    def open(self, id_: str, players: Sequence[str], *, start: int = 10, play: int = 10, strikes: int = 0) -> None:
+    def open(self, id_: str, players: Sequence[str], *, game: int = 0, start: int = 10, play: int = 10, strikes: int = 0) -> None:
         """Opens a match of these players, one for each role. The clocks, in seconds, are only written to the record: the caller measures the time."""
-        self.make("strict", id_, 0, start, play, strikes, *players)
+        self.make("strict", id_, game, start, play, strikes, *players)
 
     def next(self, id_: str, role: int) -> Owe | Hold | Over:
         """Returns what the role must do next."""

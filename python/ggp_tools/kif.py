@@ -197,7 +197,7 @@ def grouped(values: Iterable[Value], key: Callable[[Value], Key]) -> dict[Key, l
 
 
 def fresh(word: str, taken: Collection[str], ending: str = "") -> str:
-    """Appends hyphens to a word until it, followed by what this regular expression matches, is not one of those that are taken."""
+    """Appends hyphens to a word until no taken name is the word followed by a match of this regular expression."""
     while any(re.fullmatch(re.escape(word) + ending, name) for name in taken):
         word += "-"
     return word

@@ -3,12 +3,13 @@ that `play` adds. Each character of a text stands for one byte."""
 
 import dataclasses
 import io
+import itertools
 import json
 import re
 from collections import deque
 from collections.abc import Iterable, Iterator
 from dataclasses import dataclass
-from typing import BinaryIO
+from typing import BinaryIO, get_args
 
 from ggp_tools.moments import moment_at
 from ggp_tools.printable import printable
@@ -19,10 +20,10 @@ LONGEST_LINE = 1 << 23
 START, PLAY, STOP, ABORT = KINDS = "START", "PLAY", "STOP", "ABORT"
 ENDS = STOP, ABORT
 NO_TIME, BROKEN, SHORTAGE = ERRORS = "TO", "CE", "lost"
-# The greatest number is two days before Python's latest time. No answer takes much longer than a day.
+# The largest number is two days before Python's latest time. No answer takes much longer than a day.
 MOST_NUMBER, MOST_MS = 253_402_128_000_000, 86_400_000 + 1_000_000
 WORD = re.compile(r"[A-Za-z0-9_.-]{1,64}")
-ESCAPED = re.compile(r'["\\]|[^ -~]')
+ESCAPED = re.compile(r'[^ !#-\[\]-~]')
 # A line for a terminal shows at most this many bytes of a text.
 SHOWN = 200
 
@@ -113,16 +114,19 @@ class Other(Event):
 
 
 NAMES = {Message: "message", Open: "open", End: "end", Host: "host"}
-TYPES = {name: (kind, {field.name: field.type for field in dataclasses.fields(kind)}) for kind, name in NAMES.items()}
+# The class of each event, and the types of its keys.
+TYPES = {name: (kind, {field.name: get_args(field.type) or (field.type,) for field in dataclasses.fields(kind)}) for kind, name in NAMES.items()}
+TYPES_OF_OTHER = str, int, type(None)
 
 
-def is_value(key: str, value: object, kind: type) -> bool:
+def is_value(key: str, value: object, kinds: tuple[type, ...]) -> bool:
     """Returns whether a key may have a JSON value."""
-    if not isinstance(value, kind) or isinstance(value, bool):
+    kind = type(value)
+    if kind not in kinds:
         return False
-    if isinstance(value, int):
+    if kind is int:
         return 0 <= value <= (MOST_MS if key == "ms" else MOST_NUMBER)
-    if isinstance(value, str):
+    if kind is str:
         return bool(WORD.fullmatch(value)) if key in ("match", "player") else value.isascii() or max(value) <= "\xff"
     return True
 
@@ -136,9 +140,10 @@ def event_of(line: bytes) -> Event | None:
     name = values.pop("event", None) if isinstance(values, dict) else None
     if not isinstance(name, str):
         return None
-    kind, types = TYPES.get(name, (None, dict.fromkeys(values, str | int | None)))
+    kind, types = TYPES.get(name) or (None, dict.fromkeys(values, TYPES_OF_OTHER))
     # An event about a refused match may have any id.
-    if values.keys() != types.keys() or not all(is_value(key if kind else "", values[key], own) for key, own in types.items()):
+    keys = types if kind else itertools.repeat("")
+    if values.keys() != types.keys() or not all(map(is_value, keys, map(values.get, types), types.values())):
         return None
     event = kind(**values) if kind else Other(name, values)
     return event if event.is_sound() else None

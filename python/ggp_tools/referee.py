@@ -182,8 +182,8 @@ class Referee:
         return verdicts
 
     def replays(self, rules_path: pathlib.Path | str, accounts: Sequence[bytes], records: Sequence[bytes]) -> list[bool]:
-        """Returns for each call log whether its calls reproduce its record. `replay` stops at the first call log that does not, so it is run again
-        for the later ones. A brace before each call log ends the previous one."""
+        """Returns for each call log whether its calls reproduce its record. `replay` stops at the first call log whose calls do not, so
+        `replay` is run again for the later ones. A brace before each call log ends the previous one."""
         results = []
         while len(results) < len(accounts):
             done = len(results)

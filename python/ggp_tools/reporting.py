@@ -13,6 +13,8 @@ from ggp_tools.printable import printable
 from ggp_tools.streams import lead_nowhere, say
 
 REDRAWN = 0.5
+# The reason for a match that `play` has not begun.
+NOT_BEGUN = "not begun"
 
 
 def spell(seconds: float) -> str:
@@ -83,10 +85,11 @@ class Reporter:
         self.note(text)
         self.say(text)
 
-    def sum_up(self, text: str) -> None:
-        """Writes a summary. It goes to the journal only if the journal already has lines."""
+    def sum_up(self, text: str, *in_journal: str) -> None:
+        """Writes a summary. The journal gets it too, or these lines instead, but only if the journal already has lines."""
         if self.journal and self.journal.is_open():
-            self.note(text)
+            for line in in_journal or [text]:
+                self.note(line)
         self.say(text)
 
     def say(self, text: str) -> None:
@@ -115,4 +118,4 @@ class Reporter:
 
     def progress(self, over: int, open_count: int, to_come: int, left: float | None) -> None:
         """Shows the numbers of matches and the time left."""
-        self.draw(f"over {over}, open {open_count}, to come {to_come}, time left {'unknown' if left is None else spell(left)}")
+        self.draw(f"finished {over}, open {open_count}, to come {to_come}, time left {'unknown' if left is None else spell(left)}")

@@ -74,7 +74,7 @@ def ready_streams() -> None:
 
 
 def say(text: str, end: str = "\n") -> None:
-    """Writes to standard output at once. After an error, which names it, all output is discarded."""
+    """Writes to standard output at once. After an error, which names standard output, all output is discarded."""
     if not sys.stdout:
         raise OSError(errno.EBADF, "it is closed", STANDARD_OUTPUT)
     try:

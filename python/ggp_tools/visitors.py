@@ -54,6 +54,8 @@ class Visitors:
         self.most, self.spares_busy, self.lock = most, spares_busy, threading.RLock()
         # The oldest one is first.
         self.connections: dict[Connection, None] = {}
+        # The number of connections of each client that has any.
+        self.counts: Counter[str] = Counter()
         # The connections that stay open to get changes. The oldest one is first.
         self.viewers: dict[Connection, None] = {}
 
@@ -64,7 +66,7 @@ class Visitors:
         """Returns whether one more connection of a client is served. If necessary, the oldest idle connection gives way: this client's if the client
         has used up its share, else that of the client with the most idle connections. If there is none, a busy connection may give way."""
         with self.lock:
-            is_own = sum(connection.client == client for connection in self.connections) >= self.most_of(client)
+            is_own = self.counts[client] >= self.most_of(client)
             if not is_own and len(self.connections) < self.most:
                 return True
             idle = [connection for connection in self.connections if connection.is_idle and (not is_own or connection.client == client)]
@@ -78,10 +80,15 @@ class Visitors:
     def come(self, connection: Connection) -> None:
         with self.lock:
             self.connections[connection] = None
+            self.counts[connection.client] += 1
 
     def go(self, connection: Connection) -> None:
         with self.lock:
-            self.connections.pop(connection, None)
+            if connection in self.connections:
+                del self.connections[connection]
+                self.counts[connection.client] -= 1
+                if not self.counts[connection.client]:
+                    del self.counts[connection.client]
 
     @contextlib.contextmanager
     def viewing(self, connection: Connection) -> Iterator[bool]:

@@ -11,24 +11,10 @@ from ggp_tools.referee import Referee
 from ggp_tools.competition.schedule import Match
 from live_support import BEGAN
 from players import TestPlayer
-from support import GAMES, program, run, script, toml
+from support import GAMES, program, run, toml
 
 FIRST = "a-match"
 RULES = GAMES / "tictactoe.kif"
-# A referee that takes no time, so that a measurement contains only the work of `ggp_competition`: each record is lawful, and each call log reproduces
-# its record.
-QUICK = """#!{python}
-import pathlib, re, subprocess, sys
-if sys.argv[1] == "verify" and "--lines" in sys.argv:
-    data = sys.stdin.buffer.read()
-    print("lawful\\n" * data.count(b"\\n"), end="")
-elif sys.argv[1] == "replay":
-    ids = dict.fromkeys(re.findall(rb"(?m)^[0-9]+\\t[a-z]+ ([^ \\t\\n]+)", sys.stdin.buffer.read()))
-    for match in ids:
-        sys.stdout.buffer.write(b"replayed 1 calls\\n" + pathlib.Path("{folder}/records", match.decode() + ".json").read_bytes())
-else:
-    sys.exit(subprocess.run(["{program}", *sys.argv[1:]]).returncode)
-"""
 
 
 def played() -> tuple[str, str, str]:
@@ -62,4 +48,3 @@ if __name__ == "__main__":
     made = pathlib.Path(sys.argv[1])
     made.mkdir()
     make_up(made, int(sys.argv[2]))
-    script(made / "quick", QUICK.format(python=sys.executable, folder=made.absolute(), program=program()))

@@ -69,7 +69,7 @@ def stand_in(**answers):
 
 
 def wait_until(holds):
-    """Waits until a condition holds. The time limit of the whole run ends a wait that is in vain."""
+    """Waits until a condition holds. If it never holds, the time limit of the whole run ends the wait."""
     while not holds():
         time.sleep(0.02)
 

@@ -118,7 +118,7 @@ class Checked(Made):
             (without("cup/pages/index.html"), "pages/index.html is missing"),
             (lambda files: packed({**files, "cup/pages/more.html": b""}), "pages/more.html is not part of this competition"),
             (lambda files: packed({**files, "cup/pages.more": b""}), "pages.more is not part of this competition"),
-            (lambda files: packed({name.replace("cup/", "cap/", 1): data for name, data in files.items()}), "its directory is cap, and the name of the competition is cup"),
+            (lambda files: packed({name.replace("cup/", "cap/", 1): data for name, data in files.items()}), "its directory is named cap, but the competition is named cup"),
             (lambda files: packed({**files, "cup/GAPS.tsv": b""}), "GAPS.tsv is not part of this competition"),
             (lambda files: packed({**files, "cup/games/other.kif": b"a"}), "games/other.kif is not part of this competition"),
             (lambda files: packed({**files, "cup/rules/other.kif": b"a"}), "rules/other.kif is not part of this competition"),
@@ -259,10 +259,10 @@ class Checked(Made):
             self.assertEqual(str(raised(Unchecked, self.check)), "the archive can't be checked: out of memory")
 
     def test_an_archive_that_can_not_be_read_is_no_verdict(self):
-        for name, place, status in (("check", "check_archive", 3), ("table", "read_plan", 1)):
+        for name, module, place, status in (("check", archive, "check_archive", 3), ("table", command, "read_plan", 1)):
             for fault, words in ((OSError(errno.EACCES, "no", "x"), "x: no"), (KeyboardInterrupt(), "interrupted")):
                 said, patches = io.StringIO(), [mock.patch.object(command, word) for word in ("find_program", "Referee")]
-                patches += [mock.patch.object(command, place, side_effect=fault), mock.patch("sys.argv", ["ggp_competition", name, str(self.folder)])]
+                patches += [mock.patch.object(module, place, side_effect=fault), mock.patch("sys.argv", ["ggp_competition", name, str(self.folder)])]
                 with patches[0], patches[1], patches[2], patches[3], mock.patch("sys.stderr", said):
                     self.assertEqual((command.main(), said.getvalue()), (status, f"ggp_competition: {words}\n"), name)
 

@@ -249,7 +249,7 @@ class BadInput(InFolder):
 
     def test_mistakes_have_line_and_key(self):
         self.write([*PLAYERS, ("ann", "nowhere")], [("tictactoe", GAMES / "tictactoe.kif")])
-        self.assert_refused(["competition.toml:14: players.name: line 8 has 'ann' already", "competition.toml:15: players.address: expected HOST:PORT, with a port from 1 to 65,535, found 'nowhere'"])
+        self.assert_refused(["competition.toml:14: players.name: line 8 already has 'ann'", "competition.toml:15: players.address: expected HOST:PORT, with a port from 1 to 65,535, found 'nowhere'"])
 
     def test_what_is_missing(self):
         self.assert_refused("competition.toml can't be read: No such file")

@@ -15,7 +15,7 @@ STATES = 5
 
 
 def compare(seed: int) -> None:
-    """Compares what both say of some states: those of a random match, and every second time one with random terms of these."""
+    """Compares the results of both for some states, which come alternately from a random turn and from random terms of the states so far."""
     text, dice = described(seed), random.Random(seed)
     game, plain = Game(text), interpreter.Game(text)
     assert (game.roles, game.initial) == (plain.roles, plain.initial())

@@ -22,7 +22,7 @@ GAMES_OF_CUP = [
 ]
 # The clocks are so long that none runs out before the tests end. A player that does not answer INFO in time is asked again.
 HEAD = "start = 3600\nplay = 3600\nstrikes = 2\nforfeit = true\ntries = 1000\nwait = 1\n"
-# Three matches of the first round: the first one, one of a bad player, and the last one of the players of the first.
+# Three matches of the first round: the first one, one of a bad player, and the last one between the players of the first match.
 FIRST, OF_EVE, OF_ANN = "cup-001", "cup-003", "cup-016"
 BOARDS, BOARD = "document.getElementById('boards')", f"document.getElementById('board-{FIRST}')"
 # The label of each place on the board of the first match, and its glyph.
@@ -143,7 +143,7 @@ class Demonstration(InFolder):
         page.screen(*WIDE)
 
     def await_turn(self, page: Page, turn: int) -> None:
-        """Waits, without reloading, until the first page says who is to move in a turn."""
+        """Waits, without reloading, until the first page says whose turn it is."""
         page.until(f"({BOARD} || document.head).textContent.includes('after turn {turn - 1}; xplayer to move: ann (')")
         self.assertTrue(page.value("window.isFirst"))
 

@@ -90,7 +90,7 @@ class Examples(InFolder):
         for text in (record + account, record + account.rstrip(b"\n"), record, record.rstrip(b"\n"), pretty):
             file.write_bytes(text)
             self.assertEqual(run(SHOW_RECORD, file), (0, page, ""), text)
-        for text, line in ((record + account + record + account, "4 is not a line of its call log"), (record + record, "2 is another record")):
+        for text, line in ((record + account + record + account, "4 is not a line of the record's call log"), (record + record, "2 is another record")):
             file.write_bytes(text)
             self.assertEqual(run(SHOW_RECORD, file), (1, "", f"ggp-show-record: no record: line {line}. {refused}\n"))
 

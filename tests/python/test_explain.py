@@ -24,7 +24,7 @@ EXPLAIN = TOP / "python/ggp-explain-record"
 RECORD = TOP / "examples/records/countdown-3-second_version.record"
 REPORT = "One of the two is wrong: please report this, with the record and the rules."
 ERRORS = 'for each turn of moves a list with one text for each role: "", "TO", "CE", "RT", "IL ?", or "IL " and an expression in canonical text and lower case, of at most 8,192 bytes'
-# Changes of a lawful record of Countdown from 3, each with the explanation of its error. A place is a path of keys and numbers.
+# Changes to a lawful record of Countdown from 3, each with the explanation of the error that it causes. A place is a path of keys and numbers.
 FAULTS = [
     ({("moves", 0, 0): "(take 3)"}, "illegal 0 0", "Turn 1, role red: the move is not legal.", "expected one of 2: (take 1), (take 2)", "found: (take 3)"),
     ({("moves", 0, 1): "(Take\n1)"}, "illegal 0 1", "Turn 1, role blue: the move is not legal.", "expected: noop", "found: (Take\\u{a}1)"),
@@ -33,16 +33,16 @@ FAULTS = [
     ({("states", 0): []}, "state 0", "The state before turn 1 is not the first state of the rules.", "missing: (heap 3), (turn red)"),
     ({("states", 1): ["(heap 1)", "(turn blue)", "x"]}, "state 1", "The state after turn 1 is not the one that follows from the rules and the moves.", "missing: (heap 2)", "too many: (heap 1), x"),
     ({("states", 1): ["(turn blue)", "(heap 2)"]}, "state 1", "The state after turn 1 is not the one that follows from the rules and the moves.", "Its terms are right, but they are not in byte order, or some occur more than once."),
-    ({("errors", 0, 1): "RT"}, "retired 0 1", "Turn 1, role blue: the role is not retired: it had errors in up to 0 turns in a row, and the strikes are 0.", "expected: another error, or none", "found: RT"),
-    ({("errors", 0, 1): "CE", ("strikes",): 1}, "retired 1 1", "Turn 2, role blue: the role is retired: it had errors in up to 1 turn in a row, and the strikes are 1.", "expected: the error RT", "found: no error"),
+    ({("errors", 0, 1): "RT"}, "retired 0 1", "Turn 1, role blue: the role is not retired: it had errors in up to 0 turns in a row, and `strikes` is 0.", "expected: another error, or none", "found: RT"),
+    ({("errors", 0, 1): "CE", ("strikes",): 1}, "retired 1 1", "Turn 2, role blue: the role is retired: it had errors in up to 1 turn in a row, and `strikes` is 1.", "expected: the error RT", "found: no error"),
     ({("goalValues",): [100, 0]}, "goals", "A record of the phase finished has the goals of the last state.", "expected: red 0, blue 100", "found: red 100, blue 0"),
     ({("phase",): "playing"}, "goals", "A record of the phase playing has no goals.", "expected: none", "found: red 0, blue 100"),
     ({("phase",): "stopping"}, "end", "At the end the state is terminal, and 2 of 2 roles have an end mark.", "expected: phase finished, cause null", "found: phase stopping, cause null"),
     ({("cause",): "nolegal 1"}, "end", "At the end the state is terminal, and 2 of 2 roles have an end mark.", "expected: phase finished, cause null", "found: phase finished, cause nolegal 1 (the role blue)"),
     ({("endMarks", 1): None}, "end", "At the end the state is terminal, and 1 of 2 roles has an end mark.", "expected: phase stopping, cause null", "found: phase finished, cause null"),
     ({("startMarks", 1): None}, "end", "At the end a START mark is missing after 2 turns, and 2 of 2 roles have an end mark.", "expected: other marks or turns: no phase has these", "found: phase finished, cause null"),
-    ({("strikes",): 256}, "shape strikes", "expected in strikes: a whole number of 0 to 255, because the record has version 2", "found: 256"),
-    ({("playClock",): "x" * 99}, "shape playClock", "expected in playClock: a whole number of seconds, 1 to 86,400", f'found: "{"x" * 79}..'),
+    ({("strikes",): 256}, "shape strikes", "expected in strikes: a whole number from 0 to 255, because the record has version 2", "found: 256"),
+    ({("playClock",): "x" * 99}, "shape playClock", "expected in playClock: a whole number of seconds from 1 to 86,400", f'found: "{"x" * 79}..'),
     ({("endMarks",): "gone"}, "shape endMarks", 'expected in endMarks: for each role a mark: null, "", "TO" or "CE"', "the roles are: red, blue", "found: no such key"),
     ({("moves", 1): ["noop"]}, "shape moves", "expected in moves: for each turn, at most 10,000 of them, a list with one text for each role", "the roles are: red, blue", 'found as member 2 of 2: ["noop"]'),
     ({("errors", 1): ["", 0], ("moves",): "gone"}, "shape errors", f"expected in errors: {ERRORS}", "the roles are: red, blue", 'found as member 2 of 2: ["", 0]'),
@@ -80,7 +80,7 @@ class Faults(unittest.TestCase):
         )])
 
     def test_another_fault_than_the_interpreter_finds(self):
-        self.assertEqual(said_of("goals", {}), ["The interpreter finds no fault", REPORT])
+        self.assertEqual(said_of("goals", {}), ["The interpreter finds no error", REPORT])
         self.assertEqual(said_of("goals", {("states", 0): []}), ["The interpreter finds state 0: The state before turn 1 is not the first state of the rules.", REPORT])
         for places in ({("moves",): "gone"}, {("startMarks",): 1}, {("states",): [1, 2, 3]}, {("matchId",): "gone"}):
             self.assertEqual(said_of("goals", places), ["The interpreter finds that the record has a different shape", REPORT], places)
@@ -94,20 +94,20 @@ class Faults(unittest.TestCase):
             "endMarks": [None, None], "strikes": 2,
         }
         places = {(key,): value for key, value in record.items()}
-        self.assertEqual(said_of("x", places, rules)[0], "The interpreter finds no fault")
+        self.assertEqual(said_of("x", places, rules)[0], "The interpreter finds no error")
         wrong = {**places, ("errors",): [*errors[:4], ["TO", ""]]}
         self.assertEqual(said_of("retired 4 0", wrong, rules), [
-            "Turn 5, role red: the role is retired: it had errors in up to 2 turns in a row, and the strikes are 2.", "expected: the error RT", "found: TO",
+            "Turn 5, role red: the role is retired: it had errors in up to 2 turns in a row, and `strikes` is 2.", "expected: the error RT", "found: TO",
         ])
         early = {**places, ("errors",): [*errors[:3], ["RT", ""], ["RT", ""]]}
-        self.assertEqual(said_of("retired 3 0", early, rules)[0], "Turn 4, role red: the role is not retired: it had errors in up to 1 turn in a row, and the strikes are 2.")
+        self.assertEqual(said_of("retired 3 0", early, rules)[0], "Turn 4, role red: the role is not retired: it had errors in up to 1 turn in a row, and `strikes` is 2.")
         both = {**places, ("errors",): [["TO", "TO"], ["CE", "CE"], *errors[2:]]}
         self.assertEqual(said_of("end", both, rules), ["The record goes on after the end: before turn 3 all roles are retired.", "expected: 2 turns", "found: 5 turns"])
 
     def test_what_phase_and_cause_a_match_can_have(self):
         marks, cut = {("startMarks",): [None, ""]}, {("moves",): [], ("errors",): [], ("goalValues",): []}
         first = {**cut, ("states",): [["(heap 3)", "(turn red)"]]}
-        found = ("The interpreter finds no fault", REPORT)
+        found = ("The interpreter finds no error", REPORT)
         for places, phase, cause, end_marks, lines in (
             (marks, "starting", None, [None, None], found), (marks, "aborting", "asked", [None, None], found), (marks, "aborting", "asked", [None, ""], found),
             (marks, "aborted", "asked", ["", ""], found), ({}, "playing", None, [None, None], found), ({}, "aborting", "asked", ["", None], found), ({}, "aborted", "asked", ["", "TO"], found),
@@ -130,7 +130,7 @@ class Faults(unittest.TestCase):
         self.assertEqual(said_of("illegal 0 0", places, rules), ["Turn 1, role red: the move is not legal.", f"expected one of 23: {', '.join(moves[:20])}, and 3 more", "found: x"])
         for error, said in (("", None), ("TO", "with the error TO the move must be the first legal one"), ("IL m07", "with the error IL m07 the move must be the first legal one")):
             found = said_of("notfirst 0 0", {**places, ("moves", 0, 0): "m05", ("errors", 0, 0): error, ("phase",): "playing", ("goalValues",): [], ("endMarks",): [None, None]}, rules)
-            self.assertEqual(found[0], f"Turn 1, role red: {said}." if said else "The interpreter finds no fault")
+            self.assertEqual(found[0], f"Turn 1, role red: {said}." if said else "The interpreter finds no error")
 
     def test_a_role_without_a_move_or_a_goal(self):
         for text, cause, said in (
@@ -139,7 +139,7 @@ class Faults(unittest.TestCase):
         ):
             rules = Game(f"(role red) (role blue) {text}")
             ended = {("moves",): [], ("errors",): [], ("states",): [["s"]], ("goalValues",): [], ("phase",): "aborted", ("cause",): cause}
-            self.assertEqual(said_of("end", ended, rules)[0], "The interpreter finds no fault")
+            self.assertEqual(said_of("end", ended, rules)[0], "The interpreter finds no error")
             self.assertEqual(said_of("end", {**ended, ("cause",): "asked"}, rules), [
                 f"At the end {said}, and 2 of 2 roles have an end mark.", f"expected: phase aborted, cause {cause} (the role blue)", "found: phase aborted, cause asked",
             ])
@@ -153,7 +153,7 @@ class Faults(unittest.TestCase):
         self.assertEqual(said_of("shape states", {("states",): [[]], ("moves",): 0})[-1], "found 1 member: [[]]")
 
     def test_records_of_the_first_version_have_no_strikes(self):
-        self.assertEqual(said_of("x", {("version",): 1, ("strikes",): "gone", ("errors", 0, 1): "CE"})[0], "The interpreter finds no fault")
+        self.assertEqual(said_of("x", {("version",): 1, ("strikes",): "gone", ("errors", 0, 1): "CE"})[0], "The interpreter finds no error")
 
     def test_places_where_a_text_is_no_json(self):
         none = "The text is not JSON: a value is nested more than 127 deep, a number is invalid or outside the range of binary64, or a surrogate pair is incomplete."
@@ -301,7 +301,7 @@ class Commands(WithStandIn):
         wrong = (verdict_rows("version"), b"ggp_manager: not lawful: version\n", 1)
         self.assertEqual(self.run_main(str(RECORD), "--countdown=3"), (0, "lawful", ""))
         status, out, said = self.run_main(str(RECORD), "--countdown=3", answer=wrong)
-        self.assertEqual((status, out.splitlines(), said), (1, ["not lawful: version", "The interpreter finds no fault", REPORT], ""))
+        self.assertEqual((status, out.splitlines(), said), (1, ["not lawful: version", "The interpreter finds no error", REPORT], ""))
         self.assertEqual(self.run_main(str(RECORD), "--lines", "--countdown=3"), (0, "", "ggp-explain-record: 1 lawful, 0 not lawful\n"))
         status, out, said = self.run_main(str(RECORD), "--lines", "--countdown=3", answer=(verdict_rows("goals"), b"", 1))
         self.assertEqual((status, out.splitlines()[0], said), (1, "line 1, match m1: not lawful: goals", "ggp-explain-record: 0 lawful, 1 not lawful\n"))

@@ -1,11 +1,12 @@
-"""Records in the format of ggp-base, parsed like ggp-base's own `Match` (`org.ggp.base.util.match`) does."""
+"""Records in the format of ggp-base, parsed as ggp-base's own `Match` (`org.ggp.base.util.match`) parses them."""
 
 import json
 import re
+import types
 import unittest
 
 from ggp_tools.kif import expressions, spelled
-from ggp_tools.records.exports import times_of
+from ggp_tools.records.exports import text_of, times_of
 from test_collection import FAULTY as NOT_LAWFUL, LAWFUL, WithPile, record
 from test_facts import LOG, SIX, read
 
@@ -104,3 +105,10 @@ class Files(WithPile):
             self.assertEqual([list(map(spelled, expressions(moves))) for moves, _, _ in turns], found["moves"])
             errors = [dict(error.split(": ") for error in said.split("; ") if error) for _, _, said in turns]
             self.assertEqual([[said.get(role, "") for role in found["roles"]] for said in errors], found["errors"])
+
+    def test_a_header_has_the_name_of_a_role_without_other_characters(self):
+        roles = ["[\"><img", "<img"]
+        judged = types.SimpleNamespace(game=types.SimpleNamespace(name="g"), line=types.SimpleNamespace(record=json.loads(WHOLE) | {"roles": roles}, data=b""))
+        rows = text_of(judged, []).splitlines()
+        self.assertEqual(rows[2:4], ['[____img "ann"]', '[_img "bob"]'])
+        self.assertEqual([row for row in rows if row[0] == "[" and not re.fullmatch(r'\[[A-Za-z0-9_]+ "[^"]*"\]', row)], [])

@@ -165,7 +165,7 @@ class Lines(unittest.TestCase):
         return Judged(Line("pile", 1, said(record)[:-1], record), game, "lawful")
 
     def of(self, record: dict, *logs: str) -> dict:
-        """Returns the facts of the record, and the facts without those that are missing if an id has several matches."""
+        """Returns the facts of the record."""
         self.made = self.facts(*logs)
         found = self.made.of(self.judged(record))
         self.assertEqual(json.loads(json.dumps(found)), found)

@@ -14,7 +14,7 @@ from support import TOP, raised, toml
 PLAYERS = [("ann", "10.0.0.1:9147"), ("bob", "[::1]:9148"), ("cid", "host.example:9149", "concurrent = 3")]
 GAMES = [("chess", "chess.kif"), ("go", "go.kif")]
 GOOD = toml(PLAYERS, GAMES, 'kind = "round_robin"\nrounds = 2', "start = 30\nstrikes = 3\nlauncher = {command = [\"srun\", \"-N1\"], slots = 9}")
-# Changes of GOOD, and the mistakes that they cause: the line, the key, and the message.
+# Changes to GOOD, and the mistakes that they cause: the line, the key, and the message.
 MISTAKES = [
     ('name = "cup"', "", [(1, "name", "missing")]),
     ('name = "cup"', "name = 7", [(1, "name", "a text in quotes")]),
@@ -52,7 +52,7 @@ MISTAKES = [
     ('"round_robin"\nrounds = 2', '"swiss"\nrounds = 2\none = "ann"', [(8, "form.one", "the kind swiss has no such key")]),
     ('"round_robin"', '"gauntlet"', [(5, "form.one", "missing")]),
     ("rounds = 2", 'one = "ann"', [(7, "form.one", "has no such key")]),
-    ('name = "go"', 'name = "chess"', [(12, "games.name", "line 9 has 'chess' already")]),
+    ('name = "go"', 'name = "chess"', [(12, "games.name", "line 9 already has 'chess'")]),
     ('name = "go"', 'name = "-go"', [(12, "games.name", "expected a name")]),
     ('name = "go"', 'name = "g/o"', [(12, "games.name", "expected a name")]),
     ('file = "go.kif"', "", [(11, "games.file", "missing")]),
@@ -63,9 +63,9 @@ MISTAKES = [
     ('file = "go.kif"', 'file = "go.kif"\nlarge = 1', [(14, "games.large", "expected true or false, found 1")]),
     ('file = "go.kif"', 'file = "go.kif"\nplayer_rules = true', [(14, "games.player_rules", "a text in quotes")]),
     ('file = "go.kif"', 'file = "go.kif"\n\ntell = "ground"', [(15, "games.tell", "no such key; expected one of name, file, described, instantiate, start, play, player_rules, aborts, large")]),
-    ('name = "bob"', 'name = "ann"', [(18, "players.name", "line 15 has 'ann' already")]),
+    ('name = "bob"', 'name = "ann"', [(18, "players.name", "line 15 already has 'ann'")]),
     ('name = "bob"', 'name = "b b"', [(18, "players.name", "expected a name")]),
-    ('"[::1]:9148"', '"10.0.0.1:9147"', [(19, "players.address", "line 16 has")]),
+    ('"[::1]:9148"', '"10.0.0.1:9147"', [(19, "players.address", "line 16 already has")]),
     ('"[::1]:9148"', '"10.0.0.1"', [(19, "players.address", "expected HOST:PORT")]),
     ('"[::1]:9148"', '"::1:9148"', [(19, "players.address", "expected HOST:PORT")]),
     ('"[::1]:9148"', '"bob@host:9148"', [(19, "players.address", "expected HOST:PORT")]),
@@ -91,7 +91,7 @@ MISTAKES = [
     ('"cup"', '"c p"\nplay = 0', [(1, "name", "expected a name"), (2, "play", "from 1 to 86,400, found 0")]),
     ("strikes = 3", "# \N{GREEK SMALL LETTER ALPHA}\nstrikes = x", [(4, "strikes", "Invalid value")]),
 ]
-# Changes of GOOD to a number, its line and its key, and its limits.
+# Changes that put a number into GOOD, with its line and key, and with its limits.
 NUMBERS = [
     ("start = 30", "start = {}", 2, "start", 1, 86_400),
     *(("strikes = 3", f"{key} = {{}}", 3, key, *limits) for key, *limits in (
@@ -108,7 +108,7 @@ NUMBERS = [
 SCHEDULES = [
     ("lines = []", [(4, "form.lines", "at least one line")]),
     ('lines = ["chess ann bob",\n"chess ann dan", "checkers ann bob"]', [(5, "form.lines", "no player 'dan'"), (5, "form.lines", "no game 'checkers'")]),
-    ('lines = ["chess ann bob",\n"chess ann ann"]', [(5, "form.lines", "the line has the player 'ann' twice")]),
+    ('lines = ["chess ann bob",\n"chess ann ann"]', [(5, "form.lines", "the line names the player 'ann' twice")]),
     ('lines = ["chess ann bob",\n""]', [(5, "form.lines", "no game ''")]),
     ("lines = [1]", [(4, "form.lines", "at least one line"), (4, "form.lines", "a text in quotes")]),
 ]
@@ -181,7 +181,7 @@ class CompetitionFile(unittest.TestCase):
         text = (TOP / "docs/COMPETITION.md").read_text()
         limits = [
             f"at most {MOST_OF_COMPETITION:,} bytes", f"at most {MOST_SIGNS:,} of the signs", f"at most {MOST_PLAYERS:,} players, {MOST_GAMES:,} games", f"at most {MOST_MATCHES:,} matches", f"at most {MOST_EARLIER:,} files with {MOST_OF_EARLIER:,} bytes in total", f"`rounds`, 1 to {MOST_ROUNDS:,} (1)", f"0 to {MOST_STRIKES}",
-            "before it leaves the match to the next `play`, 1 to 1,000 (5)", f"0 to {MOST_SECONDS:,} (10)", f"N matches at the same time, 1 to {MOST_AT_ONCE:,}, by default 4", "`concurrent = N`, 1 to 1,024",
+            "`tries` | 1 to 1,000 (5)", f"0 to {MOST_SECONDS:,} (10)", f"N matches at the same time, 1 to {MOST_AT_ONCE:,}, by default 4", "`concurrent = N`, 1 to 1,024",
             "`name` | 1 to 40 letters", "`name`, 1 to 64 letters",
         ]
         self.assertEqual([limit for limit in limits if limit not in text], [])

@@ -92,7 +92,7 @@ class Dependence(unittest.TestCase):
                 (f"(<= {head} {body})", "", 0), (f"(<= x {body}) (<= {head} (not y)) (<= y x)", ", through y, x", 0),
                 (f"(<= {head} y) (<= x w) (<= x {body}) (<= y z (not x) z) (<= z y)", ", through y, x", 2),
             ):
-                # The grounder and the interpreter refuse the same.
+                # The grounder and the interpreter refuse the same descriptions.
                 for ask in (lambda: Relations(rules(text)).refuse_dependence(), lambda: Game(text)):
                     if (name, other) in wrong:
                         why = raised(Refused, ask)
@@ -136,14 +136,14 @@ class Circles(unittest.TestCase):
         return rounds.is_halved(circle, rules_for), rounds.last_round(circle, rules_for)
 
     def closure(self, names, more=()):
-        """Returns the paths between all of these, each starting with its own first step, and made of any two that connect."""
+        """Returns rules for the paths between all of these names: a path is one step, or two paths that connect."""
         found = [f"(<= (w {start} {end}) (true (e {start} {end})))" for start, end in itertools.product(names, repeat=2)]
         for start, middle, end in itertools.product(names, repeat=3):
             found.append(f"(<= (w {start} {end}) {' '.join(dict.fromkeys([f'(w {start} {middle})', f'(w {middle} {end})']))})")
         return " ".join([*found, *more])
 
     def both(self, names):
-        """Returns the paths of a relation that begin with one of its own and continue with one of another."""
+        """Returns rules for the paths of the first relation that begin with another path of this relation and continue with a path of the second relation."""
         first, then = names
         return " ".join(f"(<= ({first} {start} {end}) ({first} {start} {middle}) ({then} {middle} {end}))" for start, middle, end in itertools.product("ab", repeat=3))
 

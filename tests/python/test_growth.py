@@ -8,12 +8,15 @@ from unittest import mock
 
 import pytest
 
+from ggp_tools.competition import history
 from ggp_tools.competition.competition_file import Command, Competition, Faults, Form, Game, Launcher, Mistaken, Player, keys_of, read_competition
 from ggp_tools.competition.growth import Again, History, Misfit, fixed, grown, refuse_changes, refuse_unchanged, shape
+from ggp_tools.competition.plan import read_plan
 from ggp_tools.competition.results import Result
 from ggp_tools.competition.schedule import asked
+from ggp_tools.referee import Referee
 from planning import nothing_known, planned
-from support import GAMES, InFolder, raised, run, toml
+from support import GAMES, InFolder, program, raised, run, toml
 
 ROLES = {"two": 2, "one": 1, "three": 3}
 
@@ -186,8 +189,9 @@ FILE = {
 }
 HEADS = {"games": "[[games]]", "players": "[[players]]", "started": "[[players]]"}
 SWISS = {"form": {"kind": '"swiss"', "rounds": "2"}}
-# The effects of keys that are changed once matches were played. A change is refused with its name and line; or the archive shows it, because the old
-# file goes to `earlier`; or no result of a played match depends on it. The rules of a game are compared by their checksums.
+# The effects of keys that are changed once matches were played. REFUSED: the change is refused with its name and line. SHOWN: the archive shows the
+# change, because the old file goes to `earlier`. FREE: no result of a played match depends on the key. The rules of a game are compared by their
+# checksums.
 REFUSED, SHOWN, FREE = "refused", "shown", "free"
 CHANGES = (
     ("", "name", '"cup"', '"cop"', REFUSED, {}), ("", "start", "10", "9", REFUSED, {}), ("", "play", "10", "9", REFUSED, {}),
@@ -313,6 +317,17 @@ class Histories(InFolder):
         for name in ("6.toml", "12.toml"):
             (self.folder / "earlier" / name).unlink()
         self.assertEqual(self.planned(), "schedule.tsv: 2 matches of 2 players")
+
+    def test_the_same_bytes_are_parsed_once(self):
+        self.write(2, 1)
+        self.planned()
+        (self.folder / "records").mkdir()
+        (self.folder / "records/cup-001.json").touch()
+        for more, count in (("", 1), ("wait = 3", 2)):
+            self.write(2, 1, more)
+            with mock.patch.object(history, "read_competition", side_effect=history.read_competition) as read:
+                read_plan(str(self.folder), Referee(program()))
+            self.assertEqual(read.call_count, count)
 
     def test_growth_that_is_broken_off_is_made_up_for(self):
         self.write(2, 1)

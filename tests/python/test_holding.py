@@ -48,7 +48,7 @@ class Followed(unittest.TestCase):
         ])
         said = self.words(f"{self.RULES} {' (init s)' * 6}", states=[["x"]])
         self.assertEqual(said.splitlines()[0].count("(init s) gives"), 5)
-        self.assertEqual(self.words(self.RULES, states=[["s", "s"]]), "the first state has a term twice")
+        self.assertEqual(self.words(self.RULES, states=[["s", "s"]]), "the first state contains a term twice")
 
     def test_roles_that_are_others(self):
         for roles in (("ann", "eve"), ("bob", "ann")):

@@ -3,6 +3,7 @@
 import contextlib
 import http.client
 import io
+import itertools
 import json
 import select
 import socket
@@ -56,7 +57,7 @@ class Boards(unittest.TestCase):
             board, found = parsed(picture["state"]), {move["text"]: move["places"][0] for move in picture["legal"]}
             titles = [button["title"] for button in board.select(".board button")]
             self.assertEqual((sorted(title[:3] for title in titles), [title for title in titles if "nothing" not in title]), (["1 1", "1 2", "2 1", "2 2", "3 1", "3 2"], stones))
-            # (push 0 1) names no place, so (push 1 1) does not either; (drop 1) to (drop 3) name columns.
+            # (push 0 1) names no place, so (push 1 1) does not either. (drop 1) to (drop 3) name columns.
             wanted = {"(put 3 2)": [(3, 2)], "(push 1 1)": [], "(push 0 1)": [], "(drop 2)": [(2, 0)], "pass": []}
             self.assertEqual({move: found[move] for move in wanted}, wanted)
             shown.advance(("pass",))
@@ -445,6 +446,31 @@ class Pages(unittest.TestCase):
         while answered != 200:
             with contextlib.suppress(OSError, http.client.HTTPException):
                 answered = self.request("GET", self.of_page(), source="127.0.0.2").status
+
+    def knock(self, source, said):
+        """Opens a connection and sends these bytes, which may be refused."""
+        line = socket.create_connection(self.server.server_address[:2], SECONDS, (source, 0))
+        self.addCleanup(line.close)
+        with contextlib.suppress(OSError):
+            line.sendall(said)
+
+    def test_strangers_have_a_share_of_the_connections_that_begin(self):
+        self.serve("127.0.0.1")
+        self.seat.page_opens(1)
+        self.enterContext(mock.patch.object(server, "client_of", str))
+        self.enterContext(mock.patch.object(server, "PERIOD", 100 * SECONDS))
+        process = self.enterContext(mock.patch.object(self.server, "process_request", side_effect=self.server.process_request))
+        for said, sources, most in ((b"GET / ", ["127.0.0.2"], 16), (b"GET / HTTP/1.0\r\n\r\n", ["127.0.0.3"], 16), (b"GET / ", [f"127.0.1.{at}" for at in range(20)], 128)):
+            # A new period begins.
+            self.server.ends = 0.0
+            process.reset_mock()
+            for source, _ in zip(itertools.cycle(sources), range(150)):
+                self.knock(source, said)
+            self.assertEqual(self.post("(INFO)"), b"available")
+            begun = [call.args[1][0] for call in process.call_args_list]
+            self.assertEqual((len(begun), begun[-1]), (most + 1, "127.0.0.1"))
+        # The referee has no such share.
+        self.assertEqual({self.post("(INFO)") for _ in range(200)}, {b"available"})
 
     def half(self, source, count, size=60_000):
         """Opens connections, each with the beginning of a message."""

@@ -11,7 +11,7 @@ from support import GAMES
 RULES = (GAMES / "tictactoe.kif").read_text(encoding="ascii")
 EVIL = "<img/src=x/onerror=document.title=1>"
 HOSTILE = f"(role {EVIL}) (init (cell 1 1 {EVIL})) (init (cell 2 2 b)) (init </script><b>) (legal {EVIL} {EVIL}) (legal {EVIL} <script>document.title=1</script>)"
-# A piece moves and becomes one of two others, or not.
+# A piece moves, and may become one of two others.
 PROMOTING = "(role a) (init (cell 1 1 pawn)) (init (cell 2 2 none)) (legal a pass) (legal a (move 1 1 2 2 queen)) (legal a (move 1 1 2 2 rook)) terminal (goal a 100)"
 # Hex on nine places. A player may swap instead of placing a stone.
 HEX = f"""(role red) (role blue) {' '.join(f'(p {x} {y})' for x in (1, 2, 3) for y in (1, 2, 3))} (init (cell 1 1 none)) (init (cell 3 3 none))

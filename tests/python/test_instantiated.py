@@ -61,7 +61,7 @@ class Kept(InFolder):
         own.rename(self.folder / "elsewhere")
         own.symlink_to(self.folder / "elsewhere")
         self.assertIsNone(kept.kept("key"))
-        # A link is not followed when a file is written either.
+        # A link is not followed either when a file is written.
         unfinished = folder / f"{UNFINISHED}{os.getpid()}-new"
         unfinished.symlink_to(self.folder / "elsewhere")
         before = (self.folder / "elsewhere").read_bytes()

@@ -8,7 +8,7 @@ import tempfile
 from dataclasses import replace
 from unittest import mock
 
-from ggp_tools.competition import known, pages
+from ggp_tools.competition import known, match_lines, pages, table
 from ggp_tools.competition.archive import check_archive, publish
 from ggp_tools.competition.match_files import check_records
 from ggp_tools.competition.known import Known, sum_of_parts
@@ -84,7 +84,16 @@ class Values(InCache):
         for data in (pickle.dumps(Made(made)), pickle.dumps([1]), b"no pickle"):
             store("known", one.name, data, 1)
             self.assertEqual(Known(self.folder).before, {})
+        store("known", one.name, pickle.dumps({"lines": pickle.dumps(Made(made))}), 1)
+        self.assertIsNone(Known(self.folder).get("lines", "a"))
         self.assertFalse(made.exists())
+
+    def test_only_the_kinds_that_are_needed_are_read(self):
+        self.kept()
+        with mock.patch.object(known, "facts_in", wraps=known.facts_in) as read:
+            one = Known(self.folder)
+            self.assertEqual([one.get(*pair) for pair in (("lines", "a"), ("lines", "b"))], [1, None])
+        self.assertEqual(read.call_count, 2)
 
     def test_of_a_kind_what_was_not_asked_for_is_forgotten(self):
         one = Known(self.folder)
@@ -183,6 +192,14 @@ class Files(InCache):
         self.plan.matches[0] = replace(self.plan.matches[0], again="cup-009", reason="x")
         self.assertEqual(self.written(), 1)
 
+    def begin_first_match_later(self):
+        """Changes the time in the log's object for the beginning. On a busy computer this need not be the first object."""
+        log = self.plan.folder.log(self.plan.matches[0].id)
+        lines = log.read_bytes().splitlines(keepends=True)
+        later = [line.replace(b"%d" % BEGAN, b"%d" % (BEGAN + 100)) if b'"event":"open"' in line else line for line in lines]
+        self.assertNotEqual(later, lines)
+        log.write_bytes(b"".join(later))
+
     def test_the_pages_are_those_of_a_first_run(self):
         for number, known_of in enumerate((None, Known, Known)):
             knowledge = known_of and known_of(self.folder)
@@ -194,10 +211,24 @@ class Files(InCache):
             if not number:
                 first = found
             self.assertEqual(found, first)
-        log = self.plan.folder.log(self.plan.matches[0].id)
-        log.write_bytes(log.read_bytes().replace(b"%d" % BEGAN, b"%d" % (BEGAN + 100), 1))
+        self.begin_first_match_later()
         Pages(self.plan, known=Known(self.folder)).write(results)
         self.assertEqual(rows_of(parsed((self.plan.folder.pages / "matches.html").read_bytes()))[1][-1], "0.9")
+
+    def test_a_line_of_a_match_and_ratings_are_made_once(self):
+        def made():
+            knowledge = Known(self.folder)
+            results = in_order(self.plan, check_records(self.plan, self.referee, knowledge)[0])
+            with mock.patch.object(match_lines, "match_line", wraps=match_lines.match_line) as line, mock.patch.object(table, "loaded_ratings", wraps=table.loaded_ratings) as rated:
+                text = match_lines.matches_text(self.plan, results, knowledge)
+                table.tables_of(self.plan.competition, results, known=knowledge)
+            knowledge.write()
+            self.assertEqual(text, match_lines.matches_text(self.plan, results))
+            return line.call_count, rated.call_count > 0
+
+        self.assertEqual([made(), made()], [(3, True), (0, False)])
+        self.begin_first_match_later()
+        self.assertEqual([made(), made()], [(1, False), (0, False)])
 
     def publish(self):
         knowledge, path = Known(self.folder), self.folder / "cup.tar.gz"

@@ -92,7 +92,7 @@ class Launched(InFolder):
         self.players = [TestPlayer(f"p{at}", kind, at, most=count) for at in range(2)]
         form = f'kind = "schedule"\nlines = {json.dumps(["countdown p0 p1"] * count)}'
         players = [(player.name, player.place(), f"concurrent = {count}") for player in self.players]
-        # A launcher of these tests is a script, which gets the name of the match and the job.
+        # In these tests, a launcher is a script. Its arguments are the id of the match and then the command of the job.
         path = script(self.folder / "launch", f"#!/bin/bash\nmatch=$1 folder={self.folder}\nshift\n{launcher}\n")
         head = f'{head}launcher = {{command = ["{path}", "{{match}}"], slots = {slots}}}\n'
         self.schedule = self.plan(players, [("countdown", GAMES / "countdown.kif")], form, head)

@@ -205,7 +205,7 @@ class Lines(InRoom):
 
     def test_how_many_moves_were_replaced_is_said(self):
         log = self.play(2, "NIL", [SILENT, SILENT]) + self.play(3, "((take 1) noop)", [SILENT, SILENT])
-        # Its answers arrived long after the other match.
+        # The answers of the first match arrive long after those of the other one.
         os.utime(begin(self.plan, self.match, started(self.match) + log), (2e9, 2e9))
         over = self.plan.matches[1]
         moves = [["(take 1)", "noop"]] * 5
@@ -401,11 +401,20 @@ class States(InRoom):
             self.follow(board, self.play(2, "NIL", ["(take 1)", "x" * 4_000]))
         self.assertEqual((board.trouble, board.is_due(), self.heap(board)), (TOO_LONG, False, "(heap 3)"))
 
+    def test_the_rows_of_each_finished_round_are_made_once(self):
+        board = self.board()
+        for number in range(2, 1_002):
+            for event in map(event_of, self.play(number, "NIL", ["(take 1)", "(take 1)"]).encode().splitlines()):
+                board.take(event)
+        with patch.object(live_board, "MOST_OF_SCRIPT", 1_000), patch.object(board, "call", side_effect=board.call) as called:
+            self.assertEqual(sorted(board.ask(Referee(program()))), [1, 2, 3])
+        self.assertLessEqual(called.call_count, 2 * 1_000)
+
     def test_recorded_turns_are_passed_on_shortly(self):
         board = self.board(strikes=3)
         for number, moves, answers in ((2, "NIL", ["x" * 4_000, "; " * 1_500]), (3, "((take 1) noop)", ["y" * 4_000, "(take 1)"])):
             self.follow(board, self.play(number, moves, answers))
-        self.assertLess(len(board.script({})), 400)
+        self.assertLess(len(board.begun()), 400)
         self.follow(board, self.play(4, "(noop (take 1))", ["z", SILENT]))
         self.assertEqual(board.position.errors, [[f"IL {'x' * 4_000}", "IL ?"], [f"IL {'y' * 4_000}", ""], ["IL z", "TO"]])
         self.assertEqual((self.heap(board), board.position.phase), ("(heap 0)", "stopping"))

@@ -99,7 +99,7 @@ class WithMatch(unittest.TestCase):
         self.laid_down["played"] = (0, self.record + self.account, OPENED)
 
     def go(self):
-        """Runs the match until it is over, and releases its resources like `play` does."""
+        """Runs the match until it is over, and releases its resources as `play` does."""
         try:
             asyncio.run(self.open.go())
         finally:
@@ -271,9 +271,11 @@ class Asking(WithMatch):
 
     def test_what_came_of_an_info(self):
         no_name, no_network = info_of("not_sent", 2, lacks="resolver"), info_of("not_sent", 2, "a\nb", lacks="network")
+        forbidden = info_of("no_answer", 1, "ggp_manager: ann: the status is 403, not 200\nggp_manager: no answer")
         for answer, seconds, words in (
             (NO_ANSWER, 0, "refused, 0.0 s"), (NO_ANSWER, 9.96, "refused, 10.0 s"), (NO_ANSWER, 10, "silent, 10.0 s"), (NO_ANSWER, 11, "silent, 11.0 s"),
             (READY, 1, "available, 1.0 s"), (no_network, 1.25, "b, 1.2 s"), ((None, b"", ""), 3, "silent, 3.0 s"), (no_name, 0, "its host name is unknown, 0.0 s"),
+            (forbidden, 0, "refused (the status is 403, not 200), 0.0 s"),
         ):
             self.begin(self.HEAD)
             self.asked((*answer, seconds), READY)
@@ -363,7 +365,7 @@ class Checking(WithMatch):
         self.assertEqual((files, self.open.stops_game), (self.kept(".differs"), True))
         self.assert_whole()
         self.assertEqual(reports, [("cup-001", {"description.kif": b"(p ?x)", "record.json": self.record, "account.txt": self.account, "words.txt": b"differs: turn 1\n"})])
-        # An unlawful record does not follow the rules either, so it shows nothing about them.
+        # An unlawful record does not follow the rules either, so such a record shows nothing about the rules.
         self.begin(self.HEAD)
         self.checked(verdict="not lawful: goals")
         self.assertFalse(self.open.stops_game)

@@ -79,7 +79,7 @@ class SideBySide(unittest.TestCase):
         self.assertEqual(list(made_side_by_side(number_text, [])), [])
 
     def test_a_process_that_is_killed_is_a_shortage(self):
-        # Other tests may have left a thread; with such a thread, the work would not be split.
+        # Other tests may have left a thread. With such a thread, the work would not be split.
         with patch("threading.active_count", return_value=1), self.assertRaisesRegex(Unchecked, "a process was killed"):
             list(made_side_by_side(killed, [(1,), (2,)]))
 

@@ -1,10 +1,10 @@
-"""A match that shows an error in ground rules detects this error; no earlier step does.
+"""Only a match that reaches an error in ground rules reveals this error. No earlier step does.
 
 Ten games of different kinds get an error each: a missing rule, two swapped moves, a goal that is off by one, or a rule without its last literal. In
 the game with a cycle, the cycle is unrolled in half of its rounds. The place of the error is random, and matches by the wrong rules are played until
-one reaches it: its answers make another record by the right rules. No random match needs that many rounds of a cycle, so there red's stones are
-given, which wind from side to side. The referee plays and checks by the same wrong rules, so it cannot notice the error. `ggp-hold-against` must find it,
-and none in the record by the right rules."""
+one of them reaches the error: under the right rules, the answers of this match give a different record. No random match needs that many rounds of a
+cycle, so in that game the moves are given: red's stones wind from side to side. The referee plays and checks by the same wrong rules, so it cannot
+notice the error. `ggp-hold-against` must find the error, and must find no error in the record by the right rules."""
 
 import functools
 import json
@@ -117,7 +117,7 @@ def reached(name: str, plant: Plant) -> tuple[Record, Record]:
 
 
 def assert_found(name: str, record: Record, right: Record) -> None:
-    """Checks that the error is found in the wrong record, and nothing in the right one."""
+    """Checks that the error is found in the wrong record, and that nothing is found in the right one."""
     status, words = holding(name).held(json.dumps(record))
     assert (status, words.partition(":")[0]) == (DIFFERENT, "differs"), (name, words)
     assert holding(name).held(json.dumps(right)) == (SAME, f"the same: {counted(len(right['moves']), 'turn')}"), name

@@ -563,8 +563,8 @@ class Play(InFolder):
         os.close(theirs)
         said = read_to_close(ours)
         self.assertEqual(playing.wait(), 0)
-        self.assertRegex(said, r"over 0, open 1, to come 1, time left unknown")
-        self.assertRegex(said, r"over 1, open [01], to come [01], time left 0:00:\d\d")
+        self.assertRegex(said, r"finished 0, open 1, to come 1, time left unknown")
+        self.assertRegex(said, r"finished 1, open [01], to come [01], time left 0:00:\d\d")
 
     def test_watch_writes_the_pages(self):
         self.planned(["slow"] * 4)

@@ -15,7 +15,7 @@ import unittest
 from unittest import mock
 
 from ggp_tools.competition import playing
-from ggp_tools.competition.command import missing_lines
+from ggp_tools.competition.command import missing_rows
 from ggp_tools.competition.competition_file import Launcher, read_competition
 from ggp_tools.competition.files import Refused
 from ggp_tools.competition.playing import Playing, open_directories, seconds_left
@@ -179,7 +179,8 @@ class Going(WithMatches):
 
     def test_a_game_whose_rules_are_wrong_is_not_played_on(self):
         why = "heap is not played any more, because cup-001 does not follow its description"
-        # The second match was already open. Either it differs too, without another report; or it has asked its players and does not begin.
+        # The second match was already open. In the first case it differs too, and the message about the game is not repeated. In the second case it
+        # has asked its players, but does not begin.
         for end, left, lines in ((over(why="differs too", stops_game=True), "differs too", ["no record cup-003: differs too"]), (over(), why, [])):
             self.begin()
             games, once = self.plan.competition.games, iter([end])
@@ -433,11 +434,16 @@ class Before(WithMatches):
 
 
 class Words(unittest.TestCase):
-    def test_missing_matches_are_told_by_reasons(self):
-        ten, eleven = ({f"m{at}": "why" for at in range(count)} for count in (10, 11))
-        self.assertEqual(list(missing_lines(ten)), [f"missing m{at}: why" for at in range(10)])
-        self.assertEqual(list(missing_lines({**eleven, "x": "else"})), ["missing 11 matches between m0 and m10: why", "missing x: else"])
-        self.assertEqual(list(missing_lines({f"m{at}": "not begun" for at in range(1_200)})), ["missing 1,200 matches between m0 and m1199: not begun"])
+    def test_missing_matches_are_reported_by_reasons(self):
+        ten, eleven = ([f"m{at}" for at in range(count)] for count in (10, 11))
+        rows = [f"missing {match}: why" for match in eleven]
+        self.assertEqual([*missing_rows(dict.fromkeys(ten, "why"))], [(row, [row]) for row in rows[:10]])
+        shared, other = "missing 11 matches between m0 and m10: why", "missing x: else"
+        self.assertEqual([*missing_rows({**dict.fromkeys(eleven, "why"), "x": "else"})], [(shared, rows), (other, [other])])
+
+    def test_matches_that_have_not_begun_share_a_row_of_the_journal(self):
+        shared = "missing 1,200 matches between m0 and m1199: not begun"
+        self.assertEqual([*missing_rows({f"m{at}": "not begun" for at in range(1_200)})], [(shared, [shared])])
 
 
 class Signals(WithMatches):

@@ -67,14 +67,14 @@ class Schedule(unittest.TestCase):
             for count in range(roles, 17):
                 for rounds in (1, 2):
                     found = matches(count, roles, f'kind = "round_robin"\nrounds = {rounds}')
-                    # The number of blocks of matches with which each two players would meet once, if the matches could be distributed evenly.
+                    # The number of blocks of matches in which every two players would meet once, if the matches could be distributed evenly.
                     blocks = math.ceil(2 * (count - 1) / (roles * (roles - 1)))
                     self.assertEqual(len(found), count * blocks * rounds, (roles, count))
                     met = meetings(found)
                     self.assertLessEqual(max(met.values()) - min(met.values()), 3, (roles, count))
 
     def test_where_all_can_meet_equally_often_they_do(self):
-        # The numbers of players and roles, and how often each two meet: the pairs in all matches, divided by all pairs of players.
+        # The numbers of players and roles, and how often every two players meet: the pairs in all matches, divided by all pairs of players.
         for count, roles, wanted in ((7, 3, 2), (9, 4, 3), (5, 2, 2)):
             self.assertEqual(set(meetings(matches(count, roles)).values()), {wanted})
 

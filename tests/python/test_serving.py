@@ -13,6 +13,7 @@ import os
 import queue
 import re
 import resource
+import shutil
 import signal
 import socket
 import sys
@@ -381,6 +382,12 @@ class Pages(Served):
         self.assertEqual([(row[0], row[-1]) for row in rows_of(parsed(first).find(id="given-up"))[1:]], [(lost.id, "its files: x")])
         self.assertIn("It was given up: its files: x.", self.page(f"/matches/{lost.id}.html"))
         self.assertIn("It has not begun.", self.page(f"/matches/{again.id}.html"))
+        # The waiting matches of a game with wrong rules will not begin.
+        lines.append(f"stopped {lost.game}, because {lost.id} does not follow its description; 5 waiting matches of it will not begin")
+        self.write_journal(lines)
+        self.look()
+        self.assertIn("0 matches are open, 0 are waiting, 6 were given up", self.page("/"))
+        self.assertIn(f"because {lost.id} does not follow its description.", self.page(f"/matches/{again.id}.html"))
         # The next run plays it.
         self.write_journal([*lines, "play 1,000 matches"])
         self.look()
@@ -394,7 +401,7 @@ class Pages(Served):
         match = self.plan.matches[0]
         log = begin(self.plan, match, started(match) + self.play(match, 2, "NIL", ["(take 1)", "noop"]))
         self.write_journal([f"restart {other.id} {name}: process 7, port 8" for other, name in zip(self.plan.matches[1:], ("ann", "ann", "bob"))])
-        # The page does not show it either if `serve` starts within the turn, or if the end of the turn before is read in the same look.
+        # The page does not show it either if `serve` starts within the turn, or if the end of the previous turn is read in the same update.
         moment = itertools.count()
         self.enterContext(patch.object(live, "clock", lambda: next(moment) / 1_000))
         self.site = self.server.site = LiveSite(self.plan, Referee(program()), lambda: self.plan)
@@ -405,6 +412,22 @@ class Pages(Served):
         self.look()
         self.assertIn(f"ann was restarted 2 times, the last time, for {self.plan.matches[2].id}<", self.page("/"))
         self.assertNotIn("bob was restarted", self.page("/"))
+
+    def test_a_turn_that_was_broken_off_counts_as_open(self):
+        """The match may begin again, and then the players do not know yet who was dead."""
+        match, other = self.plan.matches[:2]
+        players = tuple(dataclasses.replace(player, command=Mock(restart=WHEN_DEAD)) for player in self.plan.competition.players)
+        self.plan.competition = dataclasses.replace(self.plan.competition, players=players)
+        self.site = self.server.site = LiveSite(self.plan, Referee(program()), lambda: self.plan)
+        turn, restart, left = self.play(match, 2, "NIL", ["(take 1)", "noop"]), f"restart {other.id} ann: process 7, port 8", f"no record {match.id}: x"
+        # The match is open, is broken off, begins again, is broken off again, and is given up.
+        for rows, log in (([], turn), ([restart], turn), ([restart], None), ([restart], ""), ([restart], None), ([restart, left], None)):
+            shutil.rmtree(self.plan.folder.open / match.id, ignore_errors=True)
+            if log is not None:
+                begin(self.plan, match, started(match) + log)
+            self.write_journal(rows)
+            self.look()
+            self.assertEqual("ann was restarted" in self.page("/"), left in rows)
 
     def test_a_silent_player_is_named_once_that_says_nothing_of_a_turn(self):
         """A player that may play several matches at once may be silent both in an open turn and to the INFO of another match."""
@@ -424,7 +447,7 @@ class Pages(Served):
 
 
 class Delayed(Served):
-    """Pages with a delay of some seconds. The tests control the clock and the time of day."""
+    """Pages with a delay of a few seconds. The tests control the clock and the time of day."""
 
     def setUp(self):
         super().setUp()
@@ -708,7 +731,7 @@ class Command(InFolder):
                 self.look_at_a_server_until(number)
 
     def look_at_a_server_until(self, number: int) -> None:
-        """Starts a server like a shell does in the background, where interrupts are ignored, and ends it by this signal."""
+        """Starts a server as a shell does in the background, where interrupts are ignored, and ends it by this signal."""
         ignoring = {"preexec_fn": lambda: signal.signal(signal.SIGINT, signal.SIG_IGN)}
         with start(self.folder, "serve", "--port", "0", **ignoring) as serving_it:
             address = serving_it.stdout.readline().strip()

@@ -25,7 +25,7 @@ class Data(Served):
         return json.loads(self.page(path))
 
     def feed(self, after=""):
-        """Opens the events for programs."""
+        """Opens the stream of events for programs."""
         return self.opened(f"/api/events{after}")
 
     def test_a_match_from_its_begin_to_its_end(self):

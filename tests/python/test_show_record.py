@@ -96,7 +96,7 @@ def parts_of(record: dict) -> tuple[dict, dict]:
         "scripts": (len(shown("script")), page.count(b"<script")),
         "numbers of turns": [link.text for link in shown("a")],
     }
-    # The heading of a state says whose turn it is; that of the last state says who won.
+    # The heading of a state says whose turn it is. The heading of the last state says who won.
     turns = [[role for role in record["roles"] if {f"(control {role})", f"(turn {role})"} & set(state)] for state in record["states"]]
     said = [f": {role[0]} to move" if role else "" for role in turns]
     best = [name for name, goal in zip(players, record["goalValues"]) if goal == max(record["goalValues"]) and len(players) > 1]

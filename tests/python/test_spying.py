@@ -124,9 +124,9 @@ class Spying(Served):
 
 @dataclass(frozen=True)
 class Step:
-    """A step of a match: the line that the log gets when a role answers (empty if the line is lost), its run, its round, and the number of answers to
-    the round; and then the events until the next step. In these, time passes, `serve` may restart, and the directory is read, with or without
-    questions to the referee."""
+    """A step of a match: a role answers, and events follow until the next step. `text` is the line that the log gets for the answer, or empty if the
+    line is lost. `needed` is the number of answers to the round. In the events, time passes, `serve` may restart, and the directory is read, with or
+    without questions to the referee."""
 
     run: int
     round: int
@@ -223,7 +223,7 @@ class Watched:
         self.data = ["/api/table", "/api/matches", f"/api/matches/{first.id}", "/metrics"]
 
     def serve(self):
-        """Begins to serve, as if by another process."""
+        """Begins to serve, as another process would."""
         self.site = LiveSite(self.plan, Desk(), lambda: self.plan, delay=self.delay)
         self.site.versions = itertools.count()
 

@@ -204,7 +204,7 @@ def test_all_that_a_player_has_started_is_ended(tmp_path):
 
     async def play():
         await ann.ready("cup-001")
-        while len(ann.log.path.read_text().split()) < 3:
+        while not ann.log.path.exists() or len(ann.log.path.read_text().split()) < 3:
             await asyncio.sleep(0.01)
         first = process_of(ann)
         await ann.end()

@@ -141,6 +141,6 @@ class Tables(unittest.TestCase):
         flat = [(table["game"], row["player"], row["goals"], row["rating"]) for table in said["tables"] for row in table["lines"]]
         self.assertEqual([(line[0], line[1], float(line[3]), float(line[11]) if line[11] else None) for line in lines], flat)
         self.assertIn("all games,ann,bob,2,1.5\n", files["crosstable.csv"].decode())
-        # Nothing is said of rounds.
+        # The notes do not mention rounds.
         row = next(csv.DictReader(files["table.csv"].decode().splitlines()))
         self.assertEqual([row[key] for key in ("byes", "buchholz", "rounds_won")], ["0", "", ""])

@@ -7,7 +7,8 @@ import socket
 import struct
 import threading
 import time
-from unittest.mock import Mock, patch
+from http import HTTPStatus
+from unittest.mock import AsyncMock, Mock, patch
 
 from ggp_tools.competition import http_server, live_site
 from ggp_tools.records import show
@@ -82,6 +83,28 @@ class Limits(Served):
                 taken = sum(map(len, iter(lambda: slow.recv(1 << 20), b"")))
             self.assertLess(taken, 64 << 20)
 
+    def pieces_taken(self, seconds):
+        """Returns how many pieces of an answer are sent to a visitor that needs these seconds for them, by the clock of the event loop."""
+        loop, now, taken = asyncio.new_event_loop(), [0.0], []
+
+        async def write(piece):
+            now[0] += seconds[len(taken)]
+            for _ in range(3):
+                await asyncio.sleep(0)
+            taken.append(piece)
+
+        request = Mock(raw_path="/", method="GET", headers={}, protocol=Mock(client="a"))
+        response = Mock(prepare=AsyncMock(), write=write, write_eof=AsyncMock())
+        with patch.object(loop, "time", lambda: now[0]), patch.object(http_server.web, "StreamResponse", return_value=response):
+            with contextlib.closing(loop), contextlib.suppress(TimeoutError):
+                loop.run_until_complete(self.server.send(request, HTTPStatus.OK, bytes(len(seconds) * http_server.PIECE)))
+        return len(taken)
+
+    def test_a_visitor_that_reads_slowly_is_served_and_one_that_stops_or_crawls_is_not(self):
+        # Each piece of 64 KiB may take 2 seconds on average, and all pieces together may take 20 seconds more.
+        cases = ([1.9] * 300, 300), ([2.7] * 300, 25), ([0.1] * 100 + [21] + [0.1] * 100, 100)
+        self.assertEqual([self.pieces_taken(seconds) for seconds, _ in cases], [taken for _, taken in cases])
+
     def ask_and_leave(self, path):
         """Sends a request, and resets the connection."""
         asking = socket.create_connection(("127.0.0.1", self.port), timeout=60)
@@ -137,6 +160,25 @@ class Limits(Served):
                 found.append(visitors.has_room_for(client))
                 visitors.come(Mock(client=client, is_idle=False))
             self.assertEqual(found, has_room, addresses)
+
+    def test_a_connection_takes_as_much_work_as_the_first_one(self):
+        visitors, asked = http_server.Visitors(1_000), []
+
+        class Visitor:
+            client = property(lambda self: asked.append(self) or http_server.THIS_COMPUTER)
+            is_idle = False
+
+        counts = []
+        for _ in range(100):
+            before, visitor = len(asked), Visitor()
+            self.assertTrue(visitors.has_room_for(visitor.client))
+            visitors.come(visitor)
+            counts.append(len(asked) - before)
+        self.assertEqual(set(counts), {counts[0]})
+        for visitor in list(visitors.connections):
+            visitors.go(visitor)
+            visitors.go(visitor)
+        self.assertEqual((visitors.connections, visitors.counts), ({}, {}))
 
     def test_a_busy_connection_of_the_client_with_most_gives_way_to_another_client(self):
         visitors, busy = http_server.Visitors(8, spares_busy=False), [Mock(client=client, is_idle=False) for client in "abbccdde"]

@@ -104,7 +104,7 @@ class Why(InFolder):
         self.assertEqual(run(self.folder, "play")[0], 1)
         said = self.why("cup-001")
         self.assertEqual(len(re.findall(rf"(?m)^{MOMENT} info cup-001 p0: busy, \d\.\d s$", said)), 2)
-        self.assertEqual(len(re.findall(rf"(?m)^{MOMENT} info cup-001 p1: refused, \d\.\d s$", said)), 2)
+        self.assertEqual(len(re.findall(rf"(?m)^{MOMENT} info cup-001 p1: refused \(no connection\), \d\.\d s$", said)), 2)
         self.assertRegex(said, rf"(?m)^{MOMENT} back cup-001: p0 is busy, p1 is silent$")
         self.assertRegex(said, rf"(?m)^{MOMENT} no record cup-001: p0 is busy, p1 is silent$")
         self.assertEqual(said.splitlines()[-1], "the match has no record that counts")

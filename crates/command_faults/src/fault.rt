@@ -38,6 +38,8 @@ pub enum Fault {
     /// The referee lacked this resource, so it did not send a message, or sent it too late, or lost the answer. The player did nothing
     /// wrong.
     NotSent(Shortage),
+    /// Clients cannot connect to the address of `--listen`.
+    NotListening,
     /// The desk refused to open the match.
     Refused(Refusal),
     /// The match has neither finished nor been aborted.
@@ -89,6 +91,7 @@ impl Fault {
             Fault::WriteFault => "write fault",
             Fault::NoAnswer => "no answer",
             Fault::NotSent(_) => "not sent: ",
+            Fault::NotListening => "can't listen",
             Fault::Refused(_) => "refused ",
             Fault::MatchNotEnded => "match not ended",
             Fault::BadSchedule(_, _) => "bad schedule: line ",

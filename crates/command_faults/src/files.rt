@@ -82,6 +82,8 @@ pub enum NamedFile {
     Input,
     /// The log of the messages.
     Log,
+    /// The call log of a desk that listens.
+    History,
 }
 
 impl NamedFile {
@@ -93,6 +95,7 @@ impl NamedFile {
             NamedFile::Records => "bad file of records: ",
             NamedFile::Input => "bad input: ",
             NamedFile::Log => "bad log: ",
+            NamedFile::History => "bad file of calls: ",
         }
     }
 }
@@ -101,8 +104,11 @@ impl NamedFile {
 #[derive(Clone, Copy)]
 pub enum FileFault {
     NoFile,
+    /// A new file cannot have its path.
+    Exists,
     Unopened,
     Unread,
+    Unwritten,
     /// It has this many bytes, which is more than it may have.
     TooLarge(u64, MaxBytes),
     /// Its content, or one of its lines, is longer than the limit.
@@ -124,8 +130,10 @@ impl FileFault {
     fn words(self) -> &'static str {
         match self {
             FileFault::NoFile => "no such file",
+            FileFault::Exists => "the file exists",
             FileFault::Unopened => "the file can't be opened",
             FileFault::Unread => "the file can't be read",
+            FileFault::Unwritten => "the file can't be written",
             FileFault::TooLarge(_, _) => "it has ",
             FileFault::TooLong => "the file is too long",
             FileFault::NotRegular => "it is not a regular file",

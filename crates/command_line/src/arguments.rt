@@ -3,7 +3,8 @@ ghost use Rattle.std.specs.Prelude.{◌≤◌, IfOk};
 
 use crate::program::program;
 use crate::tasks::{
-    AbortPlan, GameOptions, GameRequest, InfoPlan, MatchTask, RunPlan, SeasonPlan, Task,
+    AbortPlan, GameOptions, GameRequest, InfoPlan, MatchTask, RunPlan, SeasonPlan, ServicePlan,
+    Task,
 };
 use clap::ArgMatches;
 use clap::error::ErrorKind;
@@ -264,13 +265,41 @@ fn hosted_task<'a>(
     }
 }
 
+/// A script of calls on a desk with one game, or a desk that listens. That desk may have several games: one for each file.
+fn desk_task<'a>(alloc: Global, found: &ArgMatches<'a>) -> Result<Task<'a>, ArgumentFault<'a>> {
+    let files = found.get_strs("rules-file").unwrap_or(&[]);
+    let Some(address) = found.get_str("listen") else {
+        if files.len() > 1 {
+            return Err(ArgumentFault::Value(WrongValue::Game));
+        }
+        return Ok(game_task(GameCommand::Desk, found)?);
+    };
+    let lines = match found.get_str("lines") {
+        Some(_) => number(found, "lines", 1, 64)? as u32,
+        None => 8,
+    };
+    let first = game_source(found)?;
+    let mut games = Vec::with_capacity(alloc, 1 + files.len())?;
+    games.push(first)?;
+    for path in files.iter().skip(1) {
+        games.push(GameSource::Described(RulesSource::File(*path), limits(found)))?;
+    }
+    Ok(Task::Serve(ServicePlan {
+        address,
+        lines,
+        games,
+        history: found.get_str("history"),
+        records: found.get_str("records"),
+    }))
+}
+
 fn task<'a>(
     alloc: Global,
     name: &str,
     found: &ArgMatches<'a>,
 ) -> Result<Task<'a>, ArgumentFault<'a>> {
     match name {
-        "desk" => Ok(game_task(GameCommand::Desk, found)?),
+        "desk" => desk_task(alloc, found),
         "verify" => Ok(game_task(verify_command(found), found)?),
         "replay" => Ok(game_task(GameCommand::Replay, found)?),
         "info" => Ok(Task::Info(info_plan(found)?)),

@@ -13,5 +13,6 @@ pub use arguments::{ArgumentFault, WrongValue, read_arguments};
 pub use program::VERSION;
 pub use refusals::{asks_why, has_own_word, refusal};
 pub use tasks::{
-    AbortPlan, GameOptions, GameRequest, InfoPlan, MatchTask, RunPlan, SeasonPlan, Task,
+    AbortPlan, GameOptions, GameRequest, InfoPlan, MatchTask, RunPlan, SeasonPlan, ServicePlan,
+    Task,
 };

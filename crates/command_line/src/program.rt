@@ -18,6 +18,12 @@ enum Form {
     Required(&'static str),
     /// An optional option, with the name of its value and its default.
     Default(&'static str, &'static str),
+    /// An optional option that may be given several times, with the name of its value.
+    Repeated(&'static str),
+    /// The address of a desk that listens.
+    Listen,
+    /// An optional option of a desk that listens, with the name of its value.
+    OfListen(&'static str),
     Flag,
     /// A positional argument with this name.
     Word(&'static str),
@@ -35,11 +41,27 @@ struct Argument {
 }
 
 impl Argument {
-    fn arg<'a>(self, alloc: Global) -> Arg<'a> {
+    /// Builds the argument for `clap`.
+    fn arg<'a>(self, alloc: Global) -> Result<Arg<'a>, AllocError> {
         let arg = Arg::new(alloc, self.name).help(self.help);
         let place = "NAME@HOST:PORT";
-        match self.form {
+        Ok(match self.form {
             Form::Value(value) => arg.long(self.name).value_name(value).action(ArgAction::Set),
+            Form::Repeated(value) => arg
+                .long(self.name)
+                .value_name(value)
+                .action(ArgAction::Append),
+            Form::Listen => arg
+                .long(self.name)
+                .value_name("ADDRESS")
+                .action(ArgAction::Set)
+                .conflicts_with("interactive")?
+                .conflicts_with("file")?,
+            Form::OfListen(value) => arg
+                .long(self.name)
+                .value_name(value)
+                .action(ArgAction::Set)
+                .requires_arg("listen")?,
             Form::Required(value) => arg
                 .long(self.name)
                 .value_name(value)
@@ -59,7 +81,7 @@ impl Argument {
                 .required(true)
                 .num_args(1..)
                 .action(ArgAction::Append),
-        }
+        })
     }
 }
 
@@ -138,7 +160,11 @@ const PLAYER: Argument = Argument {
 const DESK: [Argument; 7] = [
     COUNTDOWN,
     RULES,
-    RULES_FILE,
+    Argument {
+        name: "rules-file",
+        form: Form::Repeated("FILE"),
+        help: "Play the game of the ground GDL file FILE",
+    },
     LARGE,
     WHY,
     Argument {
@@ -152,6 +178,34 @@ const DESK: [Argument; 7] = [
         help: "The script; standard input if it is missing or -",
     },
 ];
+
+/// The options of `desk` for a desk that listens. They are not in `DESK`, because the prover limits the size of `COMMANDS`.
+static LISTEN: [Argument; 4] = [
+    Argument {
+        name: "listen",
+        form: Form::Listen,
+        help: "Answer clients that connect to HOST:PORT or unix:PATH, until standard input ends; give --rules-file once for each game",
+    },
+    Argument {
+        name: "lines",
+        form: Form::OfListen("N"),
+        help: "How many clients may be connected at once (1 to 64) [default: 8]",
+    },
+    Argument {
+        name: "history",
+        form: Form::OfListen("FILE"),
+        help: "At the end write the call log to a new file FILE",
+    },
+    Argument {
+        name: "records",
+        form: Form::OfListen("FILE"),
+        help: "At the end add the records to FILE",
+    },
+];
+
+fn listen_arguments() -> &'static [Argument] {
+    &LISTEN
+}
 
 const RUN: [Argument; 12] = [
     RULES,
@@ -300,16 +354,29 @@ pub struct CommandForm {
     notes: &'static str,
 }
 
+fn with_arguments<'a>(
+    alloc: Global,
+    mut command: Command<'a>,
+    arguments: &[Argument],
+) -> Result<Command<'a>, AllocError> {
+    for argument in arguments {
+        command = command.arg(argument.arg(alloc)?)?;
+    }
+    Ok(command)
+}
+
 impl CommandForm {
     /// Builds the command for `clap`.
     pub fn command<'a>(self, alloc: Global) -> Result<Command<'a>, AllocError> {
-        let mut command = Command::new(alloc, self.name)
+        let command = Command::new(alloc, self.name)
             .about(self.about)
             .after_help(self.notes);
-        for argument in self.arguments {
-            command = command.arg(argument.arg(alloc))?;
+        let command = with_arguments(alloc, command, self.arguments)?;
+        if self.name == "desk" {
+            with_arguments(alloc, command, listen_arguments())
+        } else {
+            Ok(command)
         }
-        Ok(command)
     }
 }
 

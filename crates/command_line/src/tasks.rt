@@ -1,4 +1,5 @@
 //! The task that a command line asks for.
+ghost use Rattle.std.specs.Prelude.{◌≤◌};
 
 use match_plans::{CheckPlan, GameSource, GameTask, MatchPlan, PlayerAddress, SeasonForm};
 
@@ -13,6 +14,8 @@ pub enum Task<'a> {
     Info(InfoPlan<'a>),
     /// Sends ABORT to players.
     Abort(AbortPlan<'a>),
+    /// Answers clients that make calls on a desk over connections.
+    Serve(ServicePlan<'a>),
     /// Prints the help or the version.
     Show(String),
 }
@@ -25,6 +28,22 @@ pub struct GameRequest<'a> {
     pub is_json: bool,
     /// Whether `desk` answers each line before it reads the next one.
     pub is_interactive: bool,
+}
+
+/// How to serve a desk over connections.
+#[derive(Drop)]
+pub struct ServicePlan<'a> {
+    /// `HOST:PORT` or `unix:PATH`.
+    pub address: &'a str,
+    /// The number of lines of the desk, which is the largest number of simultaneous connections.
+    pub lines: u32,
+    ghost few: { (1 ≤ lines) × (lines ≤ 64) },
+    /// The games of the desk, by their numbers.
+    pub games: Vec<GameSource<'a>>,
+    /// The file for the call log, which must not exist.
+    pub history: Option<&'a str>,
+    /// The file that the records are appended to.
+    pub records: Option<&'a str>,
 }
 
 /// The player to ask, and whether to print its answer as JSON.

@@ -1,3 +1,4 @@
 mod LargestNumbers
+mod LoadedGames
 mod SeasonEnds
 mod TaskEnds

@@ -1,5 +1,5 @@
 -- The game of a task, and the rules that players get.
-use Rattle.std.specs.Prelude.{◌≡◌, ◌⊎◌, ℕ, List, MatchOption, Option}
+use Rattle.std.specs.Prelude.{◌≡◌, ◌⊎◌, ℕ, List, [], ◌∷◌, MatchOption, Option}
 use Rattle.game_core.specs.Expression.{Expressions, all_folded}
 use Rattle.kif_text.specs.Spelling.{SpellsAll}
 use Rattle.kif_text.specs.View.{expressions}
@@ -8,6 +8,7 @@ use Rattle.described_games.specs.Games.{IsDescribed}
 use Rattle.packed_rules.specs.PackedGames.{sentences_of}
 use Rattle.packed_rules.specs.declared.packed_game.PackedGame.{PackedGame}
 use Rattle.command_line.specs.declared.tasks.GameOptions.{GameOptions}
+use Rattle.match_plans.specs.declared.game_source.GameSource.{GameSource}
 use Rattle.game_commands.specs.Commands.{HasNoSourceText, IsRefused, IsSourceText, limits_of}
 use Rattle.command_faults.specs.declared.fault.Fault.{Fault}
 use Rattle.command_faults.specs.declared.fault.Fault.TheVariants.{BadPlayerRules, Memory}
@@ -22,9 +23,20 @@ AreSpelled text rules = (sentences : Expressions) × SpellsAll text sentences ×
 abbrev pub AreRulesFor : {F : Type 0} → Option F → PackedGame → List ℕ → Type 0
 AreRulesFor player_rules game rules = MatchOption player_rules (rules ≡ rules_text (expressions (sentences_of game))) (λ file. (text : List ℕ) × AreSpelled text rules)
 
+-- a game of this source; a file may contain any text
+abbrev pub IsGameOf : GameSource → PackedGame → Type 0
+IsGameOf source game = (text : List ℕ) × IsSourceText source text × IsDescribed (limits_of source) text game
+
+-- each game is of the source at the same place
+abbrev pub AreGamesOf : List GameSource → List PackedGame → Type 0
+AreGamesOf [] [] = Unit {0}
+AreGamesOf [] (game ∷ games) = ⊥
+AreGamesOf (source ∷ sources) [] = ⊥
+AreGamesOf (source ∷ sources) (game ∷ games) = IsGameOf source game × AreGamesOf sources games
+
 -- The game is the one that the options describe, and these are the rules for its players. A file may contain any text.
 abbrev pub IsLoadedGame : GameOptions → PackedGame → List ℕ → Type 0
-IsLoadedGame plan game rules = ((text : List ℕ) × IsSourceText plan.game text × IsDescribed (limits_of plan.game) text game) × AreRulesFor plan.player_rules game rules
+IsLoadedGame plan game rules = IsGameOf plan.game game × AreRulesFor plan.player_rules game rules
 
 -- the error for the players' rules in a file: the file cannot be read, or is not KIF
 abbrev pub IsPlayerRulesFault : Fault → Type 0

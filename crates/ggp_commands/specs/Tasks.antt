@@ -11,7 +11,7 @@ use Rattle.command_line.specs.declared.tasks.MatchTask.{MatchTask}
 use Rattle.command_line.specs.declared.tasks.MatchTask.TheVariants.{Run, Season, Check}
 use Rattle.command_line.specs.declared.tasks.GameOptions.{GameOptions}
 use Rattle.command_line.specs.declared.tasks.Task.{Task}
-use Rattle.command_line.specs.declared.tasks.Task.TheVariants.{Game, Host, Info, Abort, Show}
+use Rattle.command_line.specs.declared.tasks.Task.TheVariants.{Game, Host, Info, Abort, Serve, Show}
 use Rattle.game_commands.specs.Commands.{AnswersInput, FailsInput, HasNoGame, HoldsOfGame}
 use Rattle.command_faults.specs.Faults.{IsFileFault, input_fault}
 use Rattle.command_faults.specs.declared.fault.Fault.{Fault}
@@ -97,6 +97,8 @@ Performs H is_reached handed remaining file_remaining contents (Info plan) reade
 Performs H is_reached handed remaining file_remaining contents (Abort plan) reader reader' writer writer' =
     (reader' ≡ reader) × Appends (contents writer.stream) (contents writer'.stream) (aborted_lines plan.is_json plan.players.items)
 Performs H is_reached handed remaining file_remaining contents (Host plan task) reader reader' writer writer' = Plays H is_reached handed remaining contents plan task reader reader' writer writer' 0
+-- The calls and replies of a desk that listens go over connections: see `serve_desk` and `converse` of `desk_service`.
+Performs H is_reached handed remaining file_remaining contents (Serve plan) reader reader' writer writer' = Unit {0}
 
 -- What a task that ended with this error has read and written.
 abbrev pub Fails : (H : Type 0) → {P R F W : Type 0} → (RolePlace → PlayerAddress → P → Type 0) → (P → Option (List Handed)) → (R → Option (List ℕ)) → (F → Option (List ℕ)) → (W → Option (List ℕ)) → Task → Counting R → Counting R → Counting W → Counting W → Fault → Type 0
@@ -110,3 +112,4 @@ Fails H is_reached handed remaining file_remaining contents (Info plan) reader r
 Fails H is_reached handed remaining file_remaining contents (Abort plan) reader reader' writer writer' fault =
     (reader' ≡ reader) × (fault ≡ NoAnswer → TellsAnswers plan.is_json plan.players.items false (contents writer.stream) (contents writer'.stream))
 Fails H is_reached handed remaining file_remaining contents (Host plan task) reader reader' writer writer' fault = FailsToPlay H is_reached handed remaining contents plan task reader reader' writer writer' fault
+Fails H is_reached handed remaining file_remaining contents (Serve plan) reader reader' writer writer' fault = Unit {0}

@@ -13,10 +13,12 @@ use crate::faults::{argument_fault, command_end, status_of, task_end};
 use crate::loaded_game::{LoadedGame, load};
 use crate::log_target::{LogTarget, log_target};
 use crate::matches::{ReadyTask, input_of, play_with_reports};
+use crate::serving::serve;
 use crate::shared_files::{refuse_shared, tell_file};
 use crate::surroundings::Surroundings;
 use command_faults::Fault;
 use command_line::{GameOptions, MatchTask, Task, has_own_word, read_arguments, refusal};
+use desk_service::Listens;
 use game_commands::{Evidence, for_game};
 use game_core::Counted;
 use match_log::WriterBrand;
@@ -37,9 +39,9 @@ use whole_streams::{Pieces, write_all};
 
 /// The standard error of a command, and what to explain there when the command ends.
 #[derive(Drop)]
-struct Reports<E> {
-    errors: E,
-    evidence: Evidence,
+pub struct Reports<E> {
+    pub errors: E,
+    pub evidence: Evidence,
 }
 
 /// Runs the command with these arguments, and returns the exit status. If it fails, it writes an explanation and the error to `errors`.
@@ -53,7 +55,7 @@ pub fn command<H, S, R: Read, W: Write, E: Write + Send + Drop>(
     errors: E,
 ) -> u8
 where
-    H: Resolves + Clock + LockedFiles + Threads + Wait + Sync,
+    H: Resolves + Clock + Eprint + Listens + LockedFiles + Threads + Wait + Sync,
     H::File: Send,
     S: Reach + ReportsShortages + Sync,
     S::Player: Player + Explains + Drop + Send,
@@ -92,7 +94,7 @@ fn perform<H, S, R: Read, W: Write, E: Write + Send>(
     reports: &mut Reports<E>,
 ) -> Result<(), Fault>
 where
-    H: Resolves + Clock + LockedFiles + Threads + Wait + Sync,
+    H: Resolves + Clock + Eprint + Listens + LockedFiles + Threads + Wait + Sync,
     H::File: Send,
     S: Reach + ReportsShortages + Sync,
     S::Player: Player + Explains + Drop + Send,
@@ -226,7 +228,7 @@ fn perform_task<'w, N: WriterBrand, H, S, R: Read, W: Write, E: Write + Send>(
     reports: &mut Reports<E>,
 ) -> (Result<(), Fault>, &'w mut Counted<W>)
 where
-    H: Resolves + Clock + LockedFiles + Threads + Wait + Sync,
+    H: Resolves + Clock + Eprint + Listens + LockedFiles + Threads + Wait + Sync,
     H::File: Send,
     S: Reach + ReportsShortages + Sync,
     S::Player: Player + Explains + Drop + Send,
@@ -238,6 +240,7 @@ where
     let Surroundings { rt, alloc, .. } = *around;
     match task {
         Task::Show(text) => (show(text.as_str(), writer), writer),
+        Task::Serve(plan) => (serve(rt, alloc, plan, reader, writer, reports), writer),
         Task::Game(request) => {
             let evidence = &mut reports.evidence;
             let performed = for_game(rt, alloc, *request, reader, writer, evidence);

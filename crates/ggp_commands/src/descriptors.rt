@@ -3,6 +3,7 @@ ghost use Rattle.std.specs.Prelude.{◌≡◌, ◌⊎◌, ◌<◌, ℕ, IfNone, 
 ghost use Rattle.ggp_commands.specs.Descriptors.{Allows, IsLargest};
 
 use match_plans::SeasonForm;
+use network_players::lookup_descriptors;
 use process_streams::{DESCRIPTORS, limit_of};
 use std::alloc::Global;
 use std::fmt::Write as _;
@@ -10,7 +11,7 @@ use std::io::Write;
 use std::rt::Files;
 use whole_streams::Pieces;
 
-/// The number of descriptors that are needed besides the players' connections: for the streams, the files, and looking up hosts.
+/// The number of descriptors that are needed besides the players' connections and the lookups of hosts: for the streams and the files.
 const KEPT: u64 = 16;
 
 /// The largest number of simultaneous matches with this many players that the descriptors allow, with one connection for each player.
@@ -18,7 +19,8 @@ const KEPT: u64 = 16;
 fn allowed_matches(descriptors: u64, players: u64) -> u64
     ensures { IsLargest descriptors players result }
 {
-    let free = descriptors.saturating_sub(KEPT);
+    let others = descriptors.saturating_sub(KEPT);
+    let free = others.saturating_sub(lookup_descriptors(descriptors));
     match free.checked_div(players) {
         Some(count) if count > 0 => count,
         _ => 1,

@@ -13,6 +13,7 @@ mod loaded_game;
 mod log_target;
 mod matches;
 mod records_file;
+mod serving;
 mod shared_files;
 mod surroundings;
 

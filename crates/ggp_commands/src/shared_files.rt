@@ -23,6 +23,7 @@ enum Role {
     Done,
     Records,
     Log,
+    History,
 }
 
 impl Role {
@@ -37,6 +38,7 @@ impl Role {
             Role::Done => "the file of --done",
             Role::Records => "the file of --records",
             Role::Log => "the file of --log",
+            Role::History => "the file of --history",
         }
     }
 
@@ -47,6 +49,7 @@ impl Role {
             Role::PlayerRules => NamedFile::PlayerRules,
             Role::Done | Role::Records => NamedFile::Records,
             Role::Log => NamedFile::Log,
+            Role::History => NamedFile::History,
             Role::Input | Role::Output | Role::Errors | Role::NamedInput => NamedFile::Input,
         }
     }
@@ -54,7 +57,7 @@ impl Role {
     fn is_written(self) -> bool {
         matches!(
             self,
-            Role::Output | Role::Errors | Role::Records | Role::Log
+            Role::Output | Role::Errors | Role::Records | Role::Log | Role::History
         )
     }
 }
@@ -73,7 +76,7 @@ fn push<'a>(used: &mut Vec<Used<'a>>, role: Role, path: Option<&'a str>) -> Resu
     Ok(())
 }
 
-fn rules_file<'a>(game: GameSource<'a>) -> Option<&'a str> {
+pub fn rules_file<'a>(game: GameSource<'a>) -> Option<&'a str> {
     match game {
         GameSource::Described(RulesSource::File(path), _) => Some(path),
         _ => None,
@@ -127,6 +130,13 @@ fn used_by<'a>(alloc: Global, task: &Task<'a>) -> Result<Vec<Used<'a>>, AllocErr
             if let (GameCommand::Replay, None) = (command, file) {
                 push(&mut used, Role::Input, Some(INPUT))?;
             }
+        }
+        Task::Serve(plan) => {
+            for game in &plan.games {
+                push(&mut used, Role::Rules, rules_file(*game))?;
+            }
+            push(&mut used, Role::Records, plan.records)?;
+            push(&mut used, Role::History, plan.history)?;
         }
         Task::Info(_) | Task::Abort(_) | Task::Show(_) => {}
     }
@@ -201,10 +211,12 @@ pub fn tell_file<E: Write>(alloc: Global, task: &Task<'_>, fault: Fault, errors:
     };
     for file in &used {
         let is_it = match file.role {
-            Role::Rules => matches!(named, NamedFile::Rules),
+            // A desk that listens may have several games, and has reported which one cannot be used.
+            Role::Rules => matches!(named, NamedFile::Rules) && !matches!(task, Task::Serve(_)),
             Role::PlayerRules => matches!(named, NamedFile::PlayerRules),
             Role::NamedInput => matches!(named, NamedFile::Input),
             Role::Log => matches!(named, NamedFile::Log),
+            Role::History => matches!(named, NamedFile::History),
             _ => false,
         };
         if is_it {

@@ -3,19 +3,22 @@
 
 ghost use Rattle.std.specs.Prelude.{◌<◌};
 
+use desk_service::Listens;
 use game_core::Counted;
 use ggp_commands::{Fault, Surroundings, Terminals, asks_why, command, report};
 use match_messages::Player;
 use match_plans::{MAX_SCHEDULED, Reach, ReportsShortages};
-use network_players::{Beside, Explains, HostQuery, Resolves, RoundSignal, Sockets, make_beside};
+use network_players::{
+    Beside, Explains, HostQuery, PendingLookups, Resolves, RoundSignal, Sockets, make_beside,
+};
 use process_streams::{
-    ERRORS, FILE_SIZE, INPUT, LockedFiles, OUTPUT, Standard, hold_closed, limit_of,
+    DESCRIPTORS, ERRORS, FILE_SIZE, INPUT, LockedFiles, OUTPUT, Standard, hold_closed, limit_of,
 };
 use std::alloc::Global;
 use std::io::{ErrorKind, IsTerminal, Read, Write};
 use std::os::fd::AsFd;
 use std::process::ExitCode;
-use std::sync::{Arc, Wait};
+use std::sync::{Arc, Mutex, Wait};
 use std::thread::Threads;
 use std::time::Clock;
 use std::{env, io};
@@ -66,7 +69,7 @@ fn perform<H, S, I: Read + Drop, O: Write + Drop, E: Write + Send + Drop>(
     process: Process<I, O, E>,
 ) -> u8
 where
-    H: Resolves + Clock + LockedFiles + Threads + Wait + Sync,
+    H: Resolves + Clock + Eprint + Listens + LockedFiles + Threads + Wait + Sync,
     H::File: Send,
     S: Reach + ReportsShortages + Sync,
     S::Player: Player + Explains + Drop + Send,
@@ -117,6 +120,10 @@ fn main(rt: HostRuntime) -> ExitCode {
         rt: host,
         host: rt,
         begin: |rt: HostRuntime, query: Arc<HostQuery>| make_beside(rt, query),
+        pending: Mutex::new(PendingLookups::within(
+            rt.alloc(),
+            limit_of(&rt, rt.alloc(), DESCRIPTORS),
+        )),
     };
     let process = Process {
         alloc: rt.alloc(),

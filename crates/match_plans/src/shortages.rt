@@ -24,6 +24,9 @@ pub enum Shortage {
     /// connection.
     #[error("no network")]
     Network,
+    /// The referee was stopped while it sent the request, until the player closed the connection.
+    #[error("no processor")]
+    Processor,
 }
 
 /// Reports which resource the referee lacked in a match. Such a match has no record, because an answer in it may not be

@@ -5,7 +5,7 @@ use Rattle.std.specs.declared.io.ErrorKind.TheVariants.{WouldBlock, TimedOut}
 use Rattle.desk_calls.specs.declared.answer.Answer.{Answer}
 use Rattle.desk_calls.specs.declared.answer.Answer.TheVariants.{Text, Silent, Broken}
 use Rattle.http_exchange.specs.declared.received.Received.{Received}
-use Rattle.http_exchange.specs.declared.received.Received.TheVariants.{Unconnected, Status}
+use Rattle.http_exchange.specs.declared.received.Received.TheVariants.{Unconnected, Unsent, Status}
 use Rattle.http_exchange.specs.declared.wire_fault.WireFault.{WireFault}
 use Rattle.http_exchange.specs.declared.wire_fault.WireFault.TheVariants as exchange_faults
 use Rattle.match_plans.specs.declared.shortages.Shortage.{Shortage}
@@ -80,13 +80,25 @@ fault_so_far before (faults.Shortage Network) = before
 fault_so_far before last = last
 
 -- What follows a try to connect. If the referee lacked a resource, another try follows, even if the player has accepted no connection
--- for some seconds. If the player accepts no connection and `is_patient` is true, another try follows. A try that had no time left does
+-- for some seconds. If the player accepts no connection or its host has no address, and `is_patient` is true, another try follows. A try that had no time left does
 -- not count, so the error is that of the earlier try.
 abbrev pub after_try : ContactFault → Bool → ContactFault → AfterTry
 after_try before is_patient (faults.Shortage shortage) = Waits shortage
 after_try before is_patient faults.NoConnection = if is_patient then Tries else Ends faults.NoConnection
+after_try before is_patient faults.NoAddress = if is_patient then Tries else Ends faults.NoAddress
 after_try before is_patient (faults.Late received) = Ends before
 after_try before is_patient fault = Ends fault
+
+-- The longest pause after a try with this error, in nanoseconds. Only after a lookup that found no address do pauses grow, to half a second.
+abbrev pub longest_pause : ContactFault → ℕ
+longest_pause faults.NoAddress = 500000000
+longest_pause fault = 50000000
+
+-- Whether the player closed the connection before it had the whole request, and the program had not been running. The player is not to
+-- blame: it may have given up waiting for the rest.
+abbrev pub is_cut_by_stop : Bool → ContactFault → Bool
+is_cut_by_stop true (faults.Exchange exchange_faults.WriteFault Unsent) = true
+is_cut_by_stop has_stalled fault = false
 
 -- if a message had to wait for a resource that the referee lacked, and then had no time left, the error names this resource
 abbrev pub fault_after : Option Shortage → ContactFault → ContactFault

@@ -4,3 +4,4 @@ pub mod Contacts
 pub mod Budgets
 pub mod Players
 pub mod Paces
+pub mod Lookups

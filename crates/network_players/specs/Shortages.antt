@@ -1,9 +1,9 @@
 -- What the referee may lack.
-use Rattle.std.specs.Prelude.{◌≡◌, ◌⊎◌, ℕ, ℤ, unsigned_abs, ◌==◌, if◌then◌else◌, Bool, true, false, List, [], ◌∷◌, Option, Some, None, unwrap_or, Result, Ok, Err}
+use Rattle.std.specs.Prelude.{◌≡◌, ◌⊎◌, ℕ, ℤ, unsigned_abs, ◌==◌, if◌then◌else◌, Bool, true, false, List, [], ◌∷◌, Option, Some, None, unwrap_or}
 use Rattle.std.specs.declared.io.ErrorKind.{ErrorKind}
 use Rattle.std.specs.declared.io.ErrorKind.TheVariants.{WouldBlock, TimedOut, AddrNotAvailable, OutOfMemory, NetworkDown}
 use Rattle.match_plans.specs.declared.shortages.Shortage.{Shortage}
-use Rattle.match_plans.specs.declared.shortages.Shortage.TheVariants.{Descriptors, Ports, Memory, Clock, Resolver, Network}
+use Rattle.match_plans.specs.declared.shortages.Shortage.TheVariants.{Descriptors, Ports, Memory, Clock, Resolver, Network, Processor}
 use Rattle.http_exchange.specs.declared.received.Received.TheVariants.{Unconnected}
 use Rattle.network_players.specs.declared.contacting.ContactFault.{ContactFault}
 use Rattle.network_players.specs.declared.contacting.ContactFault.TheVariants as faults
@@ -80,7 +80,7 @@ failed_halt kind number = short_halt (system_shortage kind number)
 
 -- the codes by which threads share what the referee lacks
 abbrev pub shortage_codes : List (ℕ × Shortage)
-shortage_codes = (1, Descriptors) ∷ (2, Ports) ∷ (3, Memory) ∷ (4, Clock) ∷ (5, Resolver) ∷ (6, Network) ∷ []
+shortage_codes = (1, Descriptors) ∷ (2, Ports) ∷ (3, Memory) ∷ (4, Clock) ∷ (5, Resolver) ∷ (6, Network) ∷ (7, Processor) ∷ []
 
 abbrev pub coded_shortage : ℕ → Option Shortage
 coded_shortage code = shortage_in shortage_codes code

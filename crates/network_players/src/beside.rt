@@ -1,16 +1,21 @@
 //! A network that looks up hosts while the players' messages continue.
 
 use crate::lookup::{HostQuery, Resolves};
+use crate::pending_lookups::PendingLookups;
 use crate::routes::Routes;
 use match_plans::Shortage;
 use std::alloc::AllocError;
-use std::io;
 use std::net::{Net, SocketAddr, UdpSocket};
 use std::os::fd::OwnedFd;
 use std::os::unix::net as unix;
 use std::os::unix::net::UnixStream;
-use std::sync::{Arc, Wait};
+use std::sync::{Arc, Mutex, Wait};
 use std::time::{Clock, Duration};
+use std::{io, thread};
+
+/// How often a message tries to see which lookups are under way, with a pause of a millisecond each time. Another thread
+/// needs only microseconds for this.
+const MAX_TRIES: u32 = 1_000;
 
 /// The network and the clock of a runtime, and a function that starts a lookup and does not wait for its end.
 ///
@@ -21,6 +26,7 @@ pub struct Beside<'a, H> {
     pub rt: &'a H,
     pub host: HostRuntime,
     pub begin: fn(HostRuntime, Arc<HostQuery>) -> Result<(), AllocError>,
+    pub pending: Mutex<PendingLookups>,
     ghost callable: { IsAlwaysCallable begin },
 }
 
@@ -88,9 +94,39 @@ impl<H: Routes> Routes for Beside<'_, H> {
     }
 }
 
-impl<H: Routes> Resolves for Beside<'_, H> {
-    fn begin(&self, query: Arc<HostQuery>) -> Result<(), AllocError> {
-        (self.begin)(self.host, query)
+impl<H> Beside<'_, H> {
+    /// Starts the lookup. If there is no memory or thread for it, this is its result.
+    fn start(&self, query: &Arc<HostQuery>) {
+        let started = match Arc::try_clone(query) {
+            Ok(shared) => (self.begin)(self.host, shared),
+            Err(_) => Err(AllocError),
+        };
+        if started.is_err() {
+            query.end(Err(Shortage::Memory));
+        }
+    }
+}
+
+impl<H: Routes + Clock> Resolves for Beside<'_, H> {
+    // A message does not wait for another thread, because such a wait may never end.
+    fn begin(&self, query: Arc<HostQuery>) -> Result<Arc<HostQuery>, Shortage> {
+        for _ in 0..MAX_TRIES {
+            let joined = match self.pending.try_lock() {
+                Some(mut pending) => pending.join(&query)?,
+                None => {
+                    thread::sleep(self, Duration::from_millis(1));
+                    continue;
+                }
+            };
+            return match joined {
+                Some(other) => Ok(other),
+                None => {
+                    self.start(&query);
+                    Ok(query)
+                }
+            };
+        }
+        Err(Shortage::Processor)
     }
 
     // The thread waits for the lookup, and the message waits for the thread.

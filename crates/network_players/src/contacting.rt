@@ -2,9 +2,9 @@
 ghost use Rattle.std.specs.Prelude.{◌≡◌, ◌-◌};
 ghost use Rattle.std.specs.Duration.{as_nanos};
 ghost use Rattle.std.specs.IoError.{error_kind, raw_os_error};
-ghost use Rattle.network_players.specs.Contacts.{address_fault, after_try, connect_fault, fault_at_end, fault_at_refusal, fault_so_far, fault_after, is_of_network, outcome_of};
+ghost use Rattle.network_players.specs.Contacts.{address_fault, after_try, connect_fault, fault_at_end, fault_at_refusal, fault_so_far, fault_after, is_cut_by_stop, is_of_network, longest_pause, outcome_of};
 
-use crate::deadline::{Deadline, LATE, Step, TimedStream, first_limit, take_step};
+use crate::deadline::{Deadline, LATE, TimedStream, doubled, is_gone, try_limit};
 use crate::lookup::{Lookup, Resolves};
 use crate::routes::{Routes, lacks_route, outside};
 use crate::shortage::{is_of_either, shortage_of};
@@ -84,13 +84,19 @@ const EPERM: i32 = 1;
 /// nothing.
 const RETRY_SECONDS: u64 = 2;
 
-/// The pause before the next try to connect, in milliseconds.
+/// The first pause before another try to connect, in milliseconds. Only pauses after a lookup without an address grow.
 const PAUSE_MILLIS: u64 = 50;
+
+/// The longest pause after a lookup that found no address, in milliseconds. Longer pauses spare the name server.
+const LOOKUP_PAUSE_MILLIS: u64 = 500;
 
 /// The largest number of tries to connect for one message. With their pauses they take longer than any clock allows.
 const MAX_CONNECTS: u32 = 2_000_000;
 
 const _: () = prove!(MAX_CONNECTS as u64 * PAUSE_MILLIS > MAX_CLOCK as u64 * 1_000);
+
+/// The error of a message that could not be sent again after the program had not been running.
+const STOPPED: ContactFault = ContactFault::Shortage(Shortage::Processor);
 
 /// The error of a message: `fault` is the error of the last try, and `halt` is why no other try followed. If one of them
 /// says what the referee lacks, this is the error; otherwise it is `fault`.
@@ -227,7 +233,7 @@ fn is_of_network(fault: ContactFault) -> bool
 }
 
 /// The error of a message that failed in the network. The player is blamed only if this computer can send to the player.
-fn fault_at_refusal(fault: ContactFault, refusal: Option<Shortage>) -> ContactFault
+pub(crate) fn fault_at_refusal(fault: ContactFault, refusal: Option<Shortage>) -> ContactFault
     ensures { result ≡ fault_at_refusal refusal fault }
 {
     match refusal {
@@ -295,77 +301,109 @@ fn outcome_of(
     }
 }
 
-/// Connects to an address within the time that is left. If the first try gets no reply, a second one follows. A
-/// connection that the player closed while the program was not running counts as no connection.
+/// Connects to an address within the limit. A connection that the player closed while the program was not running counts as
+/// no connection.
 fn connect_to<N: Routes + Clock>(
     net: &N,
     address: &SocketAddr,
+    limit: Duration,
     deadline: &mut Deadline,
 ) -> Result<N::Stream, ContactFault> {
-    let mut limit = first_limit(deadline.after(net, Duration::ZERO)?);
-    for _ in 0..2 {
-        let tried = TcpStream::connect_timeout(net, address, limit);
-        // The next step finds out whether time is left.
-        let _ = deadline.after(net, limit);
-        match tried {
-            Ok(stream) => {
-                // A player says nothing before the request, so there is something to read only if it closed or broke the connection.
-                let is_gone = deadline.has_stalled
-                    && !matches!(take_step(net, &stream, &Step::Looks), Ok(false));
-                return if is_gone {
-                    Err(ContactFault::NoConnection)
-                } else {
-                    Ok(stream)
-                };
-            }
-            Err(error) => match fault_of(net, address, &error) {
-                ContactFault::Late(_) => {}
-                fault => return Err(fault),
-            },
+    let tried = TcpStream::connect_timeout(net, address, limit);
+    // The next step finds out whether time is left.
+    let _ = deadline.after(net, limit);
+    match tried {
+        Ok(stream) if deadline.has_stalled && is_gone(net, &stream) => {
+            Err(ContactFault::NoConnection)
         }
-        limit = deadline.after(net, Duration::ZERO)?;
+        Ok(stream) => Ok(stream),
+        Err(error) => Err(fault_of(net, address, &error)),
     }
-    Err(LATE)
 }
 
-/// Connects to the first of the addresses that accepts a connection, within the time that is left. An address that has
-/// accepted a connection before comes first, and the others are then tried only while this computer lacks a resource.
-/// Without this rule, if the player's host name also had the address of another player, the player could pass its message
-/// on to that player by refusing a connection.
-fn connect_once<N: Routes + Clock>(
+/// Tries each of the addresses once, until one accepts a connection. An address that has accepted a connection before comes
+/// first, and the others are then tried only while this computer lacks a resource. Without this rule, if the player's host
+/// name also had the address of another player, the player could pass its message on to that player by refusing a
+/// connection. `silent` is how many addresses did not answer: in the tries before, and then in these. It is 0 if no more
+/// tries follow.
+fn try_each<N: Routes + Clock>(
     net: &N,
     lookup: &mut Lookup,
     deadline: &mut Deadline,
+    silent: &mut u32,
 ) -> Result<N::Stream, ContactFault> {
+    let (before, mut now) = (*silent, 0u32);
+    *silent = 0;
     let mut fault = ContactFault::NoAddress;
-    for place in 0..lookup.addresses().len() {
+    let count = lookup.addresses().len();
+    for place in 0..count {
         let Some(&address) = lookup.addresses().get(place) else {
             break;
         };
-        match connect_to(net, &address, deadline) {
+        let left = match deadline.after(net, Duration::ZERO) {
+            Ok(left) => left,
+            Err(halt) => return Err(fault_so_far(fault, halt)),
+        };
+        let untried = if lookup.has_preferred {
+            1
+        } else {
+            count - place
+        };
+        let limit = try_limit(left, before.saturating_sub(now), untried);
+        match connect_to(net, &address, limit, deadline) {
             Ok(stream) => {
                 lookup.prefer(place);
                 return Ok(stream);
             }
-            Err(ContactFault::Late(received)) => return Err(ContactFault::Late(received)),
+            Err(ContactFault::Late(_)) => now = now.saturating_add(1),
             Err(last) => fault = fault_so_far(fault, last),
         }
         if lookup.has_preferred && !matches!(fault, ContactFault::Shortage(_)) {
             break;
         }
     }
+    *silent = now;
     Err(fault)
 }
 
-/// Pauses before the next try to connect. If no time is left for one, returns the error of the message; `fault` is the error of this try.
+/// Connects to the first of the addresses that accepts a connection, within the time that is left. Addresses that did not
+/// answer are tried again.
+fn connect_once<N: Routes + Clock>(
+    net: &N,
+    lookup: &mut Lookup,
+    deadline: &mut Deadline,
+) -> Result<N::Stream, ContactFault> {
+    let mut silent = 0;
+    for _ in 0..MAX_CONNECTS {
+        let tried = try_each(net, lookup, deadline, &mut silent);
+        if silent == 0 {
+            return tried;
+        }
+    }
+    Err(LATE)
+}
+
+/// The longest pause after a try with this error.
+fn longest_pause(fault: ContactFault) -> Duration
+    ensures { as_nanos result ≡ longest_pause fault }
+{
+    match fault {
+        ContactFault::NoAddress => Duration::from_millis(LOOKUP_PAUSE_MILLIS),
+        _ => Duration::from_millis(PAUSE_MILLIS),
+    }
+}
+
+/// Pauses before the next try to connect, for at most `limit`. If no time is left for one, returns the error of the message; `fault` is the
+/// error of this try.
 fn pause<N: Clock>(
     net: &N,
     deadline: &mut Deadline,
     fault: ContactFault,
+    limit: Duration,
 ) -> Result<(), ContactFault> {
     let paused = match deadline.after(net, Duration::ZERO) {
         Ok(left) => {
-            let pause = left.min(Duration::from_millis(PAUSE_MILLIS));
+            let pause = left.min(limit);
             thread::sleep(net, pause);
             deadline.after(net, pause)
         }
@@ -388,14 +426,14 @@ enum AfterTry {
     Ends(ContactFault),
 }
 
-/// What follows a try with the error `fault`, after one with the error `before`. A player that accepts no connection is
-/// tried again only if `is_patient`. A try that had no time left does not count, so the error is that of the earlier try.
+/// What follows a try with the error `fault`, after one with the error `before`. A player that accepts no connection, or whose
+/// host has no address, is tried again only if `is_patient`. A try that had no time left does not count, so the error is that of the earlier try.
 fn after_try(fault: ContactFault, before: ContactFault, is_patient: bool) -> AfterTry
     ensures { result ≡ after_try before is_patient fault }
 {
     match fault {
         ContactFault::Shortage(shortage) => AfterTry::Waits(shortage),
-        ContactFault::NoConnection if is_patient => AfterTry::Tries,
+        ContactFault::NoConnection | ContactFault::NoAddress if is_patient => AfterTry::Tries,
         ContactFault::Late(_) => AfterTry::Ends(before),
         _ => AfterTry::Ends(fault),
     }
@@ -409,8 +447,8 @@ fn patience_from(left: Duration) -> Duration
 }
 
 /// Connects to the player within the time that is left. Tries again while the referee lacks a resource, and stores this
-/// resource in `waited`. If the player accepts no connection, tries again for some seconds, counted from the start of the
-/// message, from such a lack, or from a try during which the program was not running.
+/// resource in `waited`. If the player accepts no connection or its host has no address, tries again for some seconds,
+/// counted from the start of the message, from such a lack, or from a try during which the program was not running.
 fn connect<N: Resolves + Clock>(
     net: &N,
     alloc: Global,
@@ -421,6 +459,7 @@ fn connect<N: Resolves + Clock>(
 ) -> Result<N::Stream, ContactFault> {
     let mut patient_to = patience_from(deadline.left);
     let mut before = LATE;
+    let mut limit = Duration::from_millis(PAUSE_MILLIS);
     for _ in 0..MAX_CONNECTS {
         deadline.has_stalled = false;
         let connected = match lookup.look_up(net, alloc, player, deadline) {
@@ -442,7 +481,8 @@ fn connect<N: Resolves + Clock>(
             AfterTry::Tries => {}
             AfterTry::Ends(fault) => return Err(fault),
         }
-        pause(net, deadline, fault)?;
+        pause(net, deadline, fault, limit)?;
+        limit = doubled(limit, longest_pause(fault));
         before = fault;
     }
     Err(before)
@@ -453,11 +493,11 @@ fn exchange_over<N: Net + Clock>(
     net: &N,
     alloc: Global,
     player: &PlayerAddress<'_>,
-    deadline: Deadline,
+    deadline: &mut Deadline,
     stream: N::Stream,
     message: &SharedText<'_>,
 ) -> Result<Text, ContactFault> {
-    let mut stream = Counted::new(TimedStream::new(net, deadline, stream));
+    let mut stream = Counted::new(TimedStream::new(net, *deadline, stream));
     let mut received = Received::Unsent;
     let exchanged = exchange_shared(
         alloc,
@@ -466,11 +506,26 @@ fn exchange_over<N: Net + Clock>(
         message,
         &mut received,
     );
-    outcome_of(stream.end().halt, received, exchanged)
+    let ended = stream.end();
+    *deadline = ended.deadline;
+    outcome_of(ended.halt, received, exchanged)
+}
+
+/// Whether the player closed the connection before it had the whole request, and the program had not been running: the player may have given
+/// up waiting for the rest.
+fn is_cut_by_stop(fault: ContactFault, has_stalled: bool) -> bool
+    ensures { result ≡ is_cut_by_stop has_stalled fault }
+{
+    has_stalled
+        && matches!(
+            fault,
+            ContactFault::Exchange(WireFault::WriteFault, Received::Unsent)
+        )
 }
 
 /// Sends a player a message and returns the body of its answer. The lookup of the host, connecting, writing and reading
-/// may take `seconds` seconds in total. The error says why there is no answer.
+/// may take `seconds` seconds in total. The error says why there is no answer. If the player closes the connection because
+/// the program was not running, the message is sent once more.
 pub fn contact_found<N: Resolves + Clock>(
     net: &N,
     alloc: Global,
@@ -481,14 +536,24 @@ pub fn contact_found<N: Resolves + Clock>(
 ) -> Result<Text, ContactFault> {
     let mut deadline = Deadline::within(net, seconds)?;
     let mut waited = None;
-    let reached = match connect(net, alloc, player, lookup, &mut deadline, &mut waited) {
-        Ok(stream) => exchange_over(net, alloc, player, deadline, stream, message),
-        Err(fault) => Err(fault),
-    };
-    match reached {
-        Ok(text) => Ok(text),
-        Err(fault) => Err(blamed(net, lookup.addresses(), fault_after(waited, fault))),
+    for _ in 0..MAX_CONNECTS {
+        let reached = match connect(net, alloc, player, lookup, &mut deadline, &mut waited) {
+            Ok(stream) => exchange_over(net, alloc, player, &mut deadline, stream, message),
+            Err(fault) => Err(fault),
+        };
+        match reached {
+            Ok(text) => return Ok(text),
+            Err(fault) if is_cut_by_stop(fault, deadline.has_stalled) => {
+                waited = Some(Shortage::Processor);
+            }
+            Err(fault) => {
+                return Err(blamed(net, lookup.addresses(), fault_after(waited, fault)));
+            }
+        }
+        let pause_limit = Duration::from_millis(PAUSE_MILLIS);
+        pause(net, &mut deadline, STOPPED, pause_limit)?;
     }
+    Err(STOPPED)
 }
 
 /// Sends a player a message and returns the body of its answer. The host is looked up only for this message. All steps

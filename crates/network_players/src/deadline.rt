@@ -5,7 +5,7 @@ ghost use Rattle.std.specs.Io.{ReadsAtMost, WritesAtMost};
 ghost use Rattle.std.specs.Io.KnownBytes.{ReadConsumes, WriteAppends};
 ghost use Rattle.std.specs.IoError.{error_kind, raw_os_error};
 ghost use Rattle.match_plans.specs.declared.shortages.Shortage.TheVariants.{Clock};
-ghost use Rattle.network_players.specs.Deadlines.{IsCharged, IsStep};
+ghost use Rattle.network_players.specs.Deadlines.{IsCharged, IsStep, first_limit, share, try_limit};
 ghost use Rattle.network_players.specs.Shortages.{IsTimeOut, failed_halt};
 ghost use Rattle.http_exchange.specs.declared.received.Received.TheVariants.{Unconnected};
 ghost use Rattle.network_players.specs.declared.contacting.ContactFault.TheVariants as faults;
@@ -46,14 +46,40 @@ fn charged(asked: Duration, passed: Duration) -> Duration
     }
 }
 
-/// The time limit of the first try to connect or to write: a quarter of the time that is left, and at most a second. Such a step mostly ends
-/// at once, so a program that is stopped during it loses no more of the message's time than this.
-pub(crate) fn first_limit(left: Duration) -> Duration
-    ensures { as_nanos result ≡ max 1_000_000 (min 1_000_000_000 (as_nanos left / 4)) }
+/// The time limit of the first try to connect, and of each try to write: a quarter of the time that is left, and at most a second. Such a
+/// step mostly ends at once, so a program that is stopped during it loses no more of the message's time than this.
+fn first_limit(left: Duration) -> Duration
+    ensures { as_nanos result ≡ first_limit (as_nanos left) }
 {
     (left / 4)
         .min(Duration::from_secs(1))
         .max(Duration::from_millis(1))
+}
+
+/// An equal share of the time that is left, for one of `among` addresses.
+fn share(left: Duration, among: u32) -> Duration
+    ensures { as_nanos result ≡ share (as_nanos left) among }
+{
+    (left / among.max(1)).max(Duration::from_millis(1))
+}
+
+/// The time limit of a try to connect to an address. At first `silent` is 0: `untried` addresses are left, and each gets only
+/// a short time. Then the `silent` addresses that did not answer share the time that is left.
+pub(crate) fn try_limit(left: Duration, silent: u32, untried: usize) -> Duration
+    ensures { as_nanos result ≡ try_limit (as_nanos left) silent untried }
+{
+    if silent > 0 {
+        return share(left, silent);
+    }
+    let untried = u32::try_from(untried).unwrap_or(u32::MAX);
+    first_limit(left).min(share(left, untried.saturating_add(1)))
+}
+
+/// Twice the time, but at most `longest`.
+pub(crate) fn doubled(time: Duration, longest: Duration) -> Duration
+    ensures { as_nanos result ≡ min (as_nanos longest) (as_nanos time * 2) }
+{
+    time.saturating_mul(2).min(longest)
 }
 
 /// The error of a message whose time is over. How much of its answer has come is not known here.
@@ -68,7 +94,7 @@ pub struct Deadline {
     /// When the clock was last read. `left` is the time that was left then.
     seen: Instant,
     pub(crate) left: Duration,
-    /// Whether the program was not running for a part of the last try to connect.
+    /// Whether the program was not running for a part of the last try to connect, or since then.
     pub(crate) has_stalled: bool,
     /// How many reads may still take the bytes that are there when the time is over.
     looks: u32,
@@ -139,7 +165,7 @@ impl Deadline {
 
 /// What a read of a message does next, until its bytes are there.
 #[derive(Clone, Copy)]
-pub(crate) enum Step {
+enum Step {
     /// It waits for bytes.
     Waits(Duration),
     /// It sleeps to the end of the time.
@@ -191,11 +217,7 @@ pub(crate) fn is_time_out(error: &io::Error) -> bool
 }
 
 /// Takes the step. Returns whether bytes or the end of the stream are there.
-pub(crate) fn take_step<C: Clock, S: OpenStream>(
-    clock: &C,
-    stream: &S,
-    step: &Step,
-) -> io::Result<bool> {
+fn take_step<C: Clock, S: OpenStream>(clock: &C, stream: &S, step: &Step) -> io::Result<bool> {
     let mut byte = [0];
     let peeked = match *step {
         Step::Waits(time) => {
@@ -219,6 +241,12 @@ pub(crate) fn take_step<C: Clock, S: OpenStream>(
         Err(error) if error.kind() == ErrorKind::Interrupted || is_time_out(&error) => Ok(false),
         Err(error) => Err(error),
     }
+}
+
+/// Whether there is something to read, or the connection is closed or broken. A player says nothing before it has the request, so it then
+/// does not take the request.
+pub(crate) fn is_gone<C: Clock, S: OpenStream>(clock: &C, stream: &S) -> bool {
+    !matches!(take_step(clock, stream, &Step::Looks), Ok(false))
 }
 
 /// Waits for bytes or the end of the stream. If the message has no time left for this, returns its halt.
@@ -265,7 +293,7 @@ fn failed_halt(kind: ErrorKind, number: Option<i32>) -> Option<ContactFault>
 #[derive(Drop)]
 pub struct TimedStream<'a, C, S> {
     clock: &'a C,
-    deadline: Deadline,
+    pub(crate) deadline: Deadline,
     stream: S,
     /// The halt of the last read or write. `None` if the read or write counts, or if the player made it fail.
     pub(crate) halt: Option<ContactFault>,
@@ -358,24 +386,21 @@ impl<C: Clock, S: Write + OpenStream> Write for TimedStream<'_, C, S> {
         ensures counts { OnOk result (self.new.halt ≡ None) }
         ensures late { IfErr result (λ error. IsTimeOut (error_kind error) (raw_os_error error) → IsSome self.new.halt) }
     {
-        let first = match self.deadline.after(self.clock, Duration::ZERO) {
-            Ok(left) => first_limit(left),
+        let left = match self.deadline.after(self.clock, Duration::ZERO) {
+            Ok(left) => left,
             Err(halt) => return Err(self.halted(halt)),
         };
-        let taken = match self.write_within(buf, first) {
-            Err(error) if is_time_out(&error) => {
-                let left = match self.deadline.after(self.clock, Duration::ZERO) {
-                    Ok(left) => left,
-                    Err(halt) => return Err(self.halted(halt)),
-                };
-                self.write_within(buf, left)
-            }
-            taken => taken,
-        };
-        match taken {
+        if self.deadline.has_stalled && is_gone(self.clock, &self.stream) {
+            return Err(self.failed(io::Error::from(ErrorKind::BrokenPipe)));
+        }
+        match self.write_within(buf, first_limit(left)) {
             Ok(count) => {
                 self.halt = None;
                 Ok(count)
+            }
+            // The exchange repeats such a write.
+            Err(error) if is_time_out(&error) => {
+                Err(self.failed(io::Error::from(ErrorKind::Interrupted)))
             }
             Err(error) => Err(self.failed(error)),
         }

@@ -1,6 +1,6 @@
 //! Looks up the addresses of a host. This takes as long as the resolver of this computer takes.
 
-use crate::routes::{Routes, lack_of_network, lacks_route};
+use crate::routes::{Routes, lack_of_network, lack_since, lacks_route};
 use crate::shortage::{lookup_shortage, shortage_of};
 use match_plans::Shortage;
 use std::alloc::{AllocError, Global};
@@ -8,10 +8,6 @@ use std::io;
 use std::io::ErrorKind;
 use std::net::{IpAddr, Ipv6Addr, Net, SocketAddr, ToSocketAddrs};
 use std::os::unix::net::UnixStream;
-
-/// How many times in a row the resolver must find no address before the host counts as having none. Without a file
-/// descriptor it finds none for any name.
-const DENIALS: u32 = 3;
 
 /// The host without its brackets if it is an IPv6 address with a zone, or else `None`.
 fn zoned(host: &str) -> Option<&str> {
@@ -38,11 +34,17 @@ fn is_unknown(alloc: Global, error: &io::Error) -> Result<bool, AllocError> {
     )
 }
 
-/// What the referee lacked when a lookup failed with this error. `None` if the host has no address.
-fn failed_lookup<N: Routes>(net: &N, alloc: Global, error: &io::Error) -> Option<Shortage> {
+/// What the referee lacked when a lookup failed with this error. `None` if the host has no address. `before` is what this
+/// computer lacked when the lookup began, if it had no network.
+fn failed_lookup<N: Routes>(
+    net: &N,
+    alloc: Global,
+    error: &io::Error,
+    before: Option<Shortage>,
+) -> Option<Shortage> {
     let (is_unknown, lack) = match is_unknown(alloc, error) {
         Ok(true) => (true, None),
-        Ok(false) => (false, lack_of_network(net)),
+        Ok(false) => (false, lack_since(net, before)),
         Err(AllocError) => return Some(Shortage::Memory),
     };
     lookup_shortage(error.kind(), error.raw_os_error(), is_unknown, lack)
@@ -56,9 +58,10 @@ fn told_addresses<N: Routes>(
     port: u16,
 ) -> Result<Vec<SocketAddr>, Shortage> {
     let host = zoned(host).unwrap_or(host);
+    let lack = lack_of_network(net);
     let found = match (host, port).to_socket_addrs(net) {
         Ok(found) => found,
-        Err(error) => match failed_lookup(net, alloc, &error) {
+        Err(error) => match failed_lookup(net, alloc, &error, lack) {
             Some(shortage) => return Err(shortage),
             None => return Ok(Vec::new(alloc)),
         },
@@ -91,16 +94,14 @@ pub(crate) fn addresses<N: Routes>(
     host: &str,
     port: u16,
 ) -> Result<Vec<SocketAddr>, Shortage> {
-    for _ in 0..DENIALS {
-        let found = told_addresses(net, alloc, host, port)?;
-        for address in &found {
-            if !lacks_route(net, address) {
-                return Ok(found);
-            }
+    let found = told_addresses(net, alloc, host, port)?;
+    for address in &found {
+        if !lacks_route(net, address) {
+            return Ok(found);
         }
-        if !found.is_empty() {
-            break;
-        }
+    }
+    if found.is_empty() {
+        // Without a file descriptor the resolver finds no address for any name.
         if let Some(shortage) = resolver_shortage(net) {
             return Err(shortage);
         }

@@ -1,13 +1,13 @@
 //! The addresses of a player's host. A thread looks them up while the player waits, for as long as the message has time.
-ghost use Rattle.std.specs.Prelude.{◌≡◌, ◌*◌, min, IfErr, IfSome, IsSome, None, OnErr, OnOk, Some};
-ghost use Rattle.std.specs.Duration.{as_nanos};
+ghost use Rattle.std.specs.Prelude.{◌≡◌, ◌↔◌, ◌<◌, IfErr, IfOk, IfSome, IsSome, IsSomeAnd, IsTrue, None, OnErr, OnOk, Some, length, string_bytes};
+ghost use Rattle.std.specs.Option.{ForSome};
 ghost use Rattle.http_exchange.specs.declared.received.Received.{Received};
 ghost use Rattle.network_players.specs.declared.contacting.ContactFault.TheVariants.{Late};
 
-use crate::contacting::ContactFault;
-use crate::deadline::{Deadline, LATE};
+use crate::contacting::{ContactFault, fault_at_refusal};
+use crate::deadline::{Deadline, LATE, doubled};
 use crate::host_addresses::{addresses, is_address};
-use crate::routes::Routes;
+use crate::routes::{Routes, lack_of_network, lack_since};
 use desk_calls::MAX_CLOCK;
 use match_plans::{PlayerAddress, Shortage};
 use std::alloc::{AllocError, Global};
@@ -29,6 +29,9 @@ const MAX_CHECKS: u32 = 2_000_000;
 
 const _: () = prove!((MAX_CHECKS as u64 - 10) * LONGEST_PAUSE_MILLIS > MAX_CLOCK as u64 * 1_000);
 
+/// The error of a message whose lookup could not start, because as many lookups as the descriptors allow are under way.
+const TOO_MANY: ContactFault = ContactFault::Shortage(Shortage::Descriptors);
+
 /// The result of a lookup: the addresses, none if the host has no address, or what the referee lacked.
 pub type Found = Result<Vec<SocketAddr>, Shortage>;
 
@@ -44,9 +47,19 @@ pub struct HostQuery {
 impl HostQuery {
     /// Makes the lookup, which may take long, and stores the result.
     pub fn make<N: Routes>(&self, net: &N) {
-        let found = addresses(net, self.alloc, self.host.as_str(), self.port);
-        // Only the first lookup counts.
+        self.end(addresses(net, self.alloc, self.host.as_str(), self.port));
+    }
+
+    /// Stores the result of the lookup. Only the first one counts.
+    pub(crate) fn end(&self, found: Found) {
         let _ = self.found.try_set(found);
+    }
+
+    /// Whether this is a lookup of the same host. The port is not looked up.
+    pub(crate) fn is_of(&self, host: &HostQuery) -> bool
+        ensures { IsTrue result ↔ (string_bytes self.now.host ≡ string_bytes host.now.host) }
+    {
+        self.host == host.host
     }
 
     /// The result of the lookup, or `None` if it has not ended yet.
@@ -57,8 +70,9 @@ impl HostQuery {
 
 /// A network on which hosts have names.
 pub trait Resolves: Routes {
-    /// Starts the lookup. The error means that there is no memory or thread for it.
-    fn begin(&self, query: Arc<HostQuery>) -> Result<(), AllocError>;
+    /// Starts the lookup, and returns it; or returns a lookup of the same host that has not ended. The error is what the
+    /// referee lacks for another lookup.
+    fn begin(&self, query: Arc<HostQuery>) -> Result<Arc<HostQuery>, Shortage>;
 
     /// How long starting may take if the message has this much time left.
     fn longest_begin(&self, left: Duration) -> Duration;
@@ -81,9 +95,9 @@ where
 
 /// A runtime without such a function makes the lookup while the message waits.
 impl<R: Net + Copy + Send + 'static> Resolves for R {
-    fn begin(&self, query: Arc<HostQuery>) -> Result<(), AllocError> {
+    fn begin(&self, query: Arc<HostQuery>) -> Result<Arc<HostQuery>, Shortage> {
         query.make(self);
-        Ok(())
+        Ok(query)
     }
 
     fn longest_begin(&self, left: Duration) -> Duration {
@@ -91,7 +105,7 @@ impl<R: Net + Copy + Send + 'static> Resolves for R {
     }
 }
 
-/// The addresses of a player's host, once they are looked up. A host without an address is not looked up again.
+/// The addresses of a player's host, once they are looked up. A host without an address is looked up again.
 #[derive(Drop)]
 pub struct Lookup {
     found: Option<Vec<SocketAddr>>,
@@ -99,6 +113,7 @@ pub struct Lookup {
     pub(crate) has_preferred: bool,
     /// The lookup that has not ended yet.
     query: Option<Arc<HostQuery>>,
+    ghost some: { ForSome found (λ found. 0 < length found.items) },
 }
 
 /// A lookup that has not started, for the addresses of a player's host.
@@ -113,47 +128,79 @@ fn query_of(alloc: Global, player: &PlayerAddress<'_>) -> Result<Arc<HostQuery>,
     Ok(Arc::new(alloc, query)?)
 }
 
-/// Starts a lookup. If the host is an address, the lookup needs no resolver and is made at once. `None` means that there is no memory or
-/// thread for it.
+/// Starts a lookup, or joins one of the same host. If the host is an address, the lookup needs no resolver and is made at once. The error is
+/// what the referee lacks for the lookup.
 fn begun<N: Resolves>(
     net: &N,
     alloc: Global,
     player: &PlayerAddress<'_>,
-) -> Option<Arc<HostQuery>> {
+) -> Result<Arc<HostQuery>, ContactFault> {
     let Ok(query) = query_of(alloc, player) else {
-        return None;
+        return Err(ContactFault::Shortage(Shortage::Memory));
     };
     if is_address(player.host) {
         query.make(net);
-        return Some(query);
+        return Ok(query);
     }
-    let Ok(shared) = Arc::try_clone(&query) else {
-        return None;
-    };
-    match net.begin(shared) {
-        Ok(()) => Some(query),
-        Err(_) => None,
+    match net.begin(query) {
+        Ok(begun) => Ok(begun),
+        Err(shortage) => Err(ContactFault::Shortage(shortage)),
     }
 }
 
-/// Copies the result of a lookup for the player that waited for it.
-fn copied(alloc: Global, found: &Found) -> Found {
+/// Starts a lookup as `begun` does. If the maximum number of lookups is under way, this waits until one of them ends, but no longer than the
+/// time that the message has left. Once the lookup starts, the message has this time again, because the player cannot help the wait.
+fn begun_in_time<N: Resolves + Clock>(
+    net: &N,
+    alloc: Global,
+    player: &PlayerAddress<'_>,
+    deadline: &mut Deadline,
+) -> Result<Arc<HostQuery>, ContactFault> {
+    let left_at_first = deadline.left;
+    for _ in 0..MAX_CHECKS {
+        match begun(net, alloc, player) {
+            Err(ContactFault::Shortage(Shortage::Descriptors)) => {}
+            begun => {
+                deadline.left = left_at_first;
+                return begun;
+            }
+        }
+        let Ok(left) = deadline.after(net, Duration::ZERO) else {
+            break;
+        };
+        let pause = left.min(Duration::from_millis(LONGEST_PAUSE_MILLIS));
+        thread::sleep(net, pause);
+        // The next step finds out whether time is left.
+        let _ = deadline.after(net, pause);
+    }
+    Err(TOO_MANY)
+}
+
+/// The time that is requested for the start of the lookup. An address needs no resolver: if its lookup takes time, the referee was not running.
+fn longest_begin<N: Resolves>(net: &N, player: &PlayerAddress<'_>, left: Duration) -> Duration {
+    if is_address(player.host) {
+        Duration::ZERO
+    } else {
+        net.longest_begin(left)
+    }
+}
+
+/// Copies the result of a lookup for a player at this port.
+fn copied(alloc: Global, found: &Found, port: u16) -> Found
+    ensures { IfOk result (λ copy. IfOk found.now (λ found. length copy.items ≡ length found.items)) }
+{
     match found {
-        Ok(found) => match Vec::from_slice(alloc, found) {
-            Ok(found) => Ok(found),
-            Err(_) => Err(Shortage::Memory),
-        },
+        Ok(found) => {
+            let Ok(mut copy) = Vec::from_slice(alloc, found) else {
+                return Err(Shortage::Memory);
+            };
+            for address in copy.iter_mut() {
+                address.set_port(port);
+            }
+            Ok(copy)
+        }
         Err(shortage) => Err(*shortage),
     }
-}
-
-/// The pause that follows one with this limit.
-fn pause_after(limit: Duration) -> Duration
-    ensures { as_nanos result ≡ min 50_000_000 (as_nanos limit * 2) }
-{
-    limit
-        .saturating_mul(2)
-        .min(Duration::from_millis(LONGEST_PAUSE_MILLIS))
 }
 
 /// Waits for the end of the lookup, for as long as the message has time. `asked` is the time that was requested for its start. The message
@@ -161,6 +208,7 @@ fn pause_after(limit: Duration) -> Duration
 fn wait_for<N: Resolves + Clock>(
     net: &N,
     alloc: Global,
+    player: &PlayerAddress<'_>,
     query: &HostQuery,
     asked: Duration,
     deadline: &mut Deadline,
@@ -169,12 +217,12 @@ fn wait_for<N: Resolves + Clock>(
     let mut left = deadline.after(net, asked)?;
     for _ in 0..MAX_CHECKS {
         if let Some(found) = net.found(query) {
-            return Ok(copied(alloc, found));
+            return Ok(copied(alloc, found, player.port));
         }
         let pause = left.min(limit);
         thread::sleep(net, pause);
         left = deadline.after(net, pause)?;
-        limit = pause_after(limit);
+        limit = doubled(limit, Duration::from_millis(LONGEST_PAUSE_MILLIS));
     }
     Err(LATE)
 }
@@ -191,8 +239,9 @@ impl Lookup {
         }
     }
 
-    /// Looks up the addresses of the player's host, for as long as the message has time. Later calls return the same addresses. A lookup that
-    /// takes longer continues for the next message. Another one follows only if the referee lacked a resource.
+    /// Looks up the addresses of the player's host, for as long as the message has time. Once it has some, later calls return the same
+    /// addresses. A lookup that takes longer continues for the next message. If it takes too long while this computer has no network, the
+    /// referee lacks a network.
     pub fn look_up<N: Resolves + Clock>(
         &mut self,
         net: &N,
@@ -201,34 +250,34 @@ impl Lookup {
         deadline: &mut Deadline,
     ) -> Result<(), ContactFault>
         ensures once { IfSome self.old.found (λ found. self.new.found ≡ Some found) }
-        ensures found { OnOk result (IsSome self.new.found) }
+        ensures found { OnOk result (IsSomeAnd self.new.found (λ found. 0 < length found.items)) }
         ensures without { OnErr result (self.new.found ≡ self.old.found) }
-        ensures goes_on { IsSome self.old.query → IfErr result (λ fault. (received : Received) → fault ≡ Late received → IsSome self.new.query) }
+        ensures goes_on { IfErr result (λ fault. (received : Received) → fault ≡ Late received → IsSome self.old.query → IsSome self.new.query) }
     {
         if self.found.is_some() {
             return Ok(());
         }
         let left = deadline.after(net, Duration::ZERO)?;
-        // An address needs no resolver: if its lookup takes time, the referee was not running.
-        let asked = if is_address(player.host) {
-            Duration::ZERO
-        } else {
-            net.longest_begin(left)
+        let asked = longest_begin(net, player, left);
+        let lack = lack_of_network(net);
+        let query = match self.query.take() {
+            Some(query) => query,
+            None => begun_in_time(net, alloc, player, deadline)?,
         };
-        if self.query.is_none() {
-            self.query = begun(net, alloc, player);
-        }
-        let Some(query) = &self.query else {
-            return Err(ContactFault::Shortage(Shortage::Memory));
+        let found = match wait_for(net, alloc, player, &query, asked, deadline) {
+            Ok(found) => found,
+            Err(fault) => {
+                self.query = Some(query);
+                return Err(fault_at_refusal(fault, lack_since(net, lack)));
+            }
         };
-        let found = wait_for(net, alloc, query, asked, deadline)?;
-        self.query = None;
         match found {
+            Err(shortage) => Err(ContactFault::Shortage(shortage)),
+            Ok(found) if found.is_empty() => Err(ContactFault::NoAddress),
             Ok(found) => {
                 self.found = Some(found);
                 Ok(())
             }
-            Err(shortage) => Err(ContactFault::Shortage(shortage)),
         }
     }
 

@@ -1,5 +1,5 @@
 //! The routes of this computer.
-ghost use Rattle.std.specs.Prelude.{◌≡◌, ◌↔◌, IsTrue, None, Some};
+ghost use Rattle.std.specs.Prelude.{◌≡◌, ◌↔◌, IfSome, IsTrue, None, Some};
 ghost use Rattle.std.specs.IoError.{error_kind, raw_os_error};
 ghost use Rattle.std.specs.Net.Addr.{is_ipv4};
 ghost use Rattle.std.specs.Net.Socket.{socket_ip};
@@ -85,6 +85,16 @@ impl<R: Net + Copy + Send + 'static> Routes for R {
 pub(crate) fn lack_of_network<N: Routes>(net: &N) -> Option<Shortage> {
     net.lack_of_route(&outside(true))?;
     net.lack_of_route(&outside(false))
+}
+
+/// What this computer lacked before or lacks now, if it had or has no network.
+pub(crate) fn lack_since<N: Routes>(net: &N, before: Option<Shortage>) -> Option<Shortage>
+    ensures { IfSome before (λ shortage. result ≡ Some shortage) }
+{
+    match before {
+        Some(_) => before,
+        None => lack_of_network(net),
+    }
 }
 
 /// Whether this computer has a network but no route to an address, given what it lacks for that route and for a default route.

@@ -90,6 +90,7 @@ pub(crate) fn code_of(shortage: Shortage) -> u64
         Shortage::Clock => 4,
         Shortage::Resolver => 5,
         Shortage::Network => 6,
+        Shortage::Processor => 7,
     }
 }
 
@@ -104,6 +105,7 @@ pub(crate) fn coded(code: u64) -> Option<Shortage>
         4 => Some(Shortage::Clock),
         5 => Some(Shortage::Resolver),
         6 => Some(Shortage::Network),
+        7 => Some(Shortage::Processor),
         _ => None,
     }
 }

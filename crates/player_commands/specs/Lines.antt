@@ -11,7 +11,7 @@ use Rattle.match_messages.specs.declared.info.Info.{Info}
 use Rattle.match_messages.specs.declared.info.Info.TheVariants.{Available, Ready, Busy, Unknown}
 use Rattle.match_plans.specs.declared.addresses.PlayerAddress.{PlayerAddress}
 use Rattle.match_plans.specs.declared.shortages.Shortage.{Shortage}
-use Rattle.match_plans.specs.declared.shortages.Shortage.TheVariants.{Descriptors, Ports, Memory, Clock, Resolver, Network}
+use Rattle.match_plans.specs.declared.shortages.Shortage.TheVariants.{Descriptors, Ports, Memory, Clock, Resolver, Network, Processor}
 use Rattle.whole_streams.specs.Streams.{AppendsPart}
 use Rattle.player_commands.specs.declared.fault.CommandFault.{CommandFault}
 use Rattle.player_commands.specs.declared.fault.CommandFault.TheVariants.{NoAnswer, NotSent, WriteFault}
@@ -38,6 +38,7 @@ shortage_word Memory = codes "memory"
 shortage_word Clock = codes "clock"
 shortage_word Resolver = codes "resolver"
 shortage_word Network = codes "network"
+shortage_word Processor = codes "processor"
 
 -- the JSON object for a player that gave no answer, or to which nothing was sent
 abbrev pub unanswered_line : List ℕ → CommandFault → List ℕ

@@ -82,6 +82,7 @@ fn shortage_word(shortage: Shortage) -> &'static str
         Shortage::Clock => "clock",
         Shortage::Resolver => "resolver",
         Shortage::Network => "network",
+        Shortage::Processor => "processor",
     }
 }
 

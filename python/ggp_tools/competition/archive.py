@@ -6,29 +6,28 @@ import functools
 import os
 import pathlib
 import tempfile
-from collections.abc import Callable, Iterable, Iterator, Mapping, Sequence
+from collections.abc import Callable, Iterable, Iterator, Sequence
 
 from ggp_tools.competition.call_logs import faults_of_logs
 from ggp_tools.competition.described import DIFFERS, IS_SAME, comparisons
 from ggp_tools.competition.files import Refused, file_bytes, written_whole
 from ggp_tools.competition.known import Known, sum_of_file
 from ggp_tools.competition.match_files import check_records, unplanned_records
+from ggp_tools.competition.match_lines import matches_text
 from ggp_tools.competition.packing import Spoilt, pack, unpack
 from ggp_tools.competition.pages import Pages
-from ggp_tools.competition.plan import Plan, faults_of_descriptions, files_of_origin, read_plan, read_sums, rounds_left, sums_of, sums_text
-from ggp_tools.competition.results import Result, match_line, read_record
+from ggp_tools.competition.plan import Plan, faults_of_descriptions, files_of_origin, read_plan, read_sums, rounds_left, sums_text
+from ggp_tools.competition.results import Result
 from ggp_tools.competition.schedule import schedule_text
-from ggp_tools.competition.side_by_side import PROCESSORS, made_side_by_side
+from ggp_tools.competition.side_by_side import PROCESSORS
 from ggp_tools.competition.table import tables_of
 from ggp_tools.competition.table_text import in_order, table_files, without_record
 from ggp_tools.descriptions.loading import has_variables, sum_of
 from ggp_tools.printable import counted, message_of
-from ggp_tools.records.facts import Exchanges, broken_answers, record_sum
-from ggp_tools.records.match_logs import logged
 from ggp_tools.referee import VERSION_LINE, Referee, Unchecked, has_events
 
 SUMS, VERSION, HOW, GAPS = "SHA256SUMS", "VERSION", "CHECK.txt", "GAPS.tsv"
-# The greatest length of VERSION, and the greatest number of errors that are reported for an archive.
+# The maximum length of VERSION, and the maximum number of errors that are reported for an archive.
 MOST_OF_VERSION, MOST_FAULTS = 100, 100
 # These errors come from this computer, and say nothing about an archive.
 SHORTAGES = errno.ENOSPC, errno.EDQUOT, errno.EIO, errno.EMFILE, errno.ENFILE, errno.ENOMEM
@@ -69,24 +68,7 @@ def files_below(folder: pathlib.Path) -> dict[str, pathlib.Path]:
     return {str(file.relative_to(folder)): file for file in sorted(folder.rglob("*")) if file.is_file()}
 
 
-def line_of(plan: Plan, result: Result, sums: Mapping[str, str | None]) -> str:
-    """Returns the line of a match in matches.jsonl."""
-    log = logged(plan.folder.run_of(result.match.id))
-    broken = broken_answers(Exchanges(read_record(plan.read_record(result.match))), log.broken)
-    return match_line(result, sums, log, broken).decode("ascii")
-
-
-def matches_text(plan: Plan, results: Sequence[Result]) -> bytes:
-    path = plan.folder.description_sums
-    descriptions = sums_of(path) if path.is_file() else {}
-    calls = []
-    for result in results:
-        game, record = result.match.game, record_sum(plan.read_record(result.match))
-        calls.append((plan, result, {"record": record, "rules": plan.rules[game].sum, "description": descriptions.get(f"{game}.kif")}))
-    return "".join(made_side_by_side(line_of, calls)).encode("ascii")
-
-
-def contents(plan: Plan, referee: Referee, results: list[Result], pages: Iterable[str]) -> Iterator[Content]:
+def contents(plan: Plan, referee: Referee, results: list[Result], pages: Iterable[str], known: Known | None = None) -> Iterator[Content]:
     """Yields the names and contents of the files that are published, with these pages."""
     folder = plan.folder
     yield "competition.toml", plan.text
@@ -103,23 +85,23 @@ def contents(plan: Plan, referee: Referee, results: list[Result], pages: Iterabl
         yield f"records/{match}.json", folder.record(match)
         yield f"accounts/{match}.txt", folder.account(match)
         yield f"logs/{match}.jsonl", functools.partial(folder.read_log, match)
-    yield "matches.jsonl", matches_text(plan, results)
+    yield "matches.jsonl", matches_text(plan, results, known)
     if folder.journal.is_file():
         yield folder.journal.name, folder.journal
     if (missing := without_record(plan, results)) or rounds_left(plan):
         yield GAPS, schedule_text(missing)
-    yield from table_files(plan, tables_of(plan.competition, results, plan.rounds)).items()
+    yield from table_files(plan, tables_of(plan.competition, results, plan.rounds, known=known)).items()
     yield from ((f"pages/{name}", folder.pages / name) for name in sorted(pages))
     yield VERSION, f"{referee.version()}\n".encode("ascii")
     yield HOW, HOW_TO.format(name=plan.competition.name).encode("ascii")
 
 
 def publish(plan: Plan, referee: Referee, results: list[Result], path: pathlib.Path, known: Known) -> str:
-    """Writes the archive, and returns its checksum. The same files always give the same archive. Pages of matches that were made before are not made
+    """Writes the archive, and returns its checksum. The same files always give the same archive. Pages of matches that already exist are not made
     again."""
     pages = Pages(plan, True, known).write(results)
     with written_whole(path) as file:
-        files = with_sums(contents(plan, referee, results, pages))
+        files = with_sums(contents(plan, referee, results, pages, known))
         pack(file, ((f"{plan.competition.name}/{name}", data) for name, data in files))
     return sum_of_file(path)
 
@@ -165,7 +147,7 @@ def has_bytes(file: pathlib.Path, data: bytes) -> bool:
 
 
 def faults_of_files(plan: Plan, referee: Referee, results: list[Result]) -> Iterator[str]:
-    """Yields an error for each file that is missing, that `publish` would write with other contents, or that it would not write."""
+    """Yields an error for each file that is missing, that `publish` would write with different contents, or that it would not write at all."""
     folder = plan.folder
     files = {name: file for name, file in files_below(folder.path).items() if not name.startswith("pages/")}
     # The pages of the archive are renamed, because they are made again. No file of an archive has this name.
@@ -239,7 +221,8 @@ def compared_side_by_side(file: pathlib.Path, records: Sequence[bytes]) -> list[
 
 
 def compared_matches(plan: Plan, results: list[Result], folder: pathlib.Path) -> tuple[str, list[str]]:
-    """Compares the matches of each game with its description, if this has variables. Returns a remark about the comparison, and the differences."""
+    """Compares the matches of each game with its description, if the description has variables. Returns a remark about the comparison, and the
+    differences."""
     count, not_followed, faults = 0, [], []
     for game in plan.competition.games:
         file, matches = folder / f"games/{game.name}.kif", [result.match for result in results if result.match.game == game.name]
@@ -267,7 +250,7 @@ def what_is_right(path: pathlib.Path, empty: pathlib.Path, referee: Referee) -> 
     refuse(faults_of_sums(folder))
     plan = read_plan(folder, referee)
     if folder.name != plan.competition.name:
-        raise Spoilt(f"its directory is {folder.name}, and the name of the competition is {plan.competition.name}")
+        raise Spoilt(f"its directory is named {folder.name}, but the competition is named {plan.competition.name}")
     results, faults = faults_of_matches(plan, referee)
     faults += [fault.replace(f"{folder}/", "") for fault in faults_of_descriptions(plan, lambda game: folder / f"games/{game.name}.kif")]
     refuse(faults)

@@ -1,5 +1,6 @@
-"""Checks call logs ("accounts") and match logs. A call log may only have the calls that the referee of one match makes, because `replay` would accept
-others that change nothing. The match log must have the messages and answers of the call log. Only the match log has times, hosts and reasons."""
+"""Checks call logs ("accounts") and match logs. A call log may only have the calls that the referee of one match makes, because `replay` would also
+accept other calls that change nothing. The match log must have the messages and answers of the call log. Only the match log has times, hosts and
+reasons."""
 
 import io
 import itertools
@@ -22,17 +23,17 @@ if TYPE_CHECKING:
 OPENING = re.compile(rb"0\t(?:open|(strict)) ([^ \t]+) \d+ (\d{1,5}) (\d{1,5})([^\t]*)\topened")
 NEXT = re.compile(rb"(\d+)\tnext ([^ \t]+) (\d+)\t(?:owe (\d+) ([^ \t]+) ?([^\t]*)|(hold \d+|over))")
 ANSWER = re.compile(rb"(\d+)\t(submit|miss) ([^ \t]+) (\d+) (\d+)(?: ([^\t]*))?\ttaken")
-# A role that waits in a round asks every two seconds, more often at first, and up to twice more for each role that wakes it. So the number of its
-# `hold` replies is less than the seconds of the clock, plus twice the number of roles, plus this number, which allows for ten minutes in which the
-# computer delays the referee.
+# A role that waits in a round asks every two seconds, more often at first, and up to twice more for each role that wakes it. So it gets
+# fewer `hold` replies than the sum of three numbers: the seconds of the clock, twice the number of roles, and this number. This number allows for ten
+# minutes in which the computer delays the referee.
 MOST_HOLDS = 300
 # The history of the referee's desk has at most this many calls.
 MOST_CALLS = 1_000_000
 # The match of any call.
 MATCH = re.compile(rb"\d+\t[a-z]+ ([^ \t]+)[ \t]")
 ESCAPED = re.compile(r"\\x([0-9a-f]{2})")
-# The parts of the referee's reasons for an error (docs/ERRORS.md), with N for numbers. After a failed read, its kind follows as another part, which
-# is one word.
+# The parts of the referee's reasons for an error (docs/ERRORS.md), with N for numbers. For a failed read, the kind of the failure follows as one more
+# part, which is one word.
 REASONS = {
     *("the host has no address", "no connection", "no answer in time", "the answers of the match are too long", "a write failed", "a read failed"),
     *("the head is not valid HTTP", "the status is not N", "the status is N, not N", "the status is N, which announces an answer and is none"),
@@ -67,7 +68,7 @@ class Asked:
         self.over: set[bytes] = set()
 
     def is_of_role(self, line: bytes, match: bytes, role: bytes) -> bool:
-        """Returns whether a call comes from the line of the role at the desk, before the role's part is over."""
+        """Returns whether a call comes from the role's line of the desk, before the role's part is over."""
         return match == self.match and int(line) == int(role) + 1 and role not in self.over
 
     def may_hold(self, role: bytes, hold: bytes) -> bool:
@@ -117,7 +118,7 @@ def fault_of_account(account: bytes) -> str | None:
 
 
 class Exchange(NamedTuple):
-    """A message and the answer to it, or the error, according to a call log, which does not have the description in START."""
+    """A message with the answer or the error, according to a call log. The call log does not have the description that START carries."""
 
     kind: str
     round: int | None
@@ -169,7 +170,7 @@ def has_sound_reason(message: Message) -> bool:
 
 
 def is_confirmed(match: "Match", event: Event, asked: list[list[Exchange]], last: list[int]) -> bool:
-    """Returns whether a call log agrees with an event. `last` has the number of each role's last message, and gets the number of this one."""
+    """Returns whether a call log agrees with an event. `last` has the number of each role's last message, and is updated."""
     if not isinstance(event, Message):
         return not isinstance(event, End) or event.kind in {exchange.kind for of_role in asked for exchange in of_role}
     role = event.role

@@ -23,7 +23,7 @@ SOON, LATE = 0.1, 10
 
 
 class Watched(asyncio.subprocess.SubprocessStreamProtocol):
-    """Sets an event when its process has ended, even if another process has its pipes open."""
+    """Sets an event when the started process has ended, even if another process still has the pipes open."""
 
     def __init__(self) -> None:
         super().__init__(MOST_AT_ONCE, asyncio.get_running_loop())
@@ -41,14 +41,14 @@ class Watched(asyncio.subprocess.SubprocessStreamProtocol):
 @contextlib.asynccontextmanager
 async def started(words: list[str], ends_itself: bool = False) -> AsyncIterator[tuple[asyncio.subprocess.Process, asyncio.Event]]:
     """Starts a process, and yields it with an event that is set when it has ended. On exit, the started process and its group are killed. If this
-    process ends, the started process is killed too, unless `ends_itself` says that it then ends by itself. Ctrl-C at the terminal does not reach
-    it."""
+    process ends, the started process is killed too, unless `ends_itself` says that the started process then ends by itself. Ctrl-C at the terminal
+    does not reach the started process."""
     loop, before = asyncio.get_running_loop(), () if ends_itself else (*WITH_PARENT, str(os.getpid()))
     if not shutil.which(words[0]):
         raise FileNotFoundError(errno.ENOENT, os.strerror(errno.ENOENT), words[0])
     starting = asyncio.create_task(loop.subprocess_exec(Watched, *before, *words, start_new_session=True))
     try:
-        # Without the shield, a cancellation would kill only the process itself, and asyncio would wait for the processes that it has started.
+        # Without the shield, a cancellation would kill only the started process, and not its children. Then asyncio would wait for these children.
         transport, watched = await asyncio.shield(starting)
         yield asyncio.subprocess.Process(transport, watched, loop), watched.ended
     finally:
@@ -79,7 +79,7 @@ class Done:
 
 
 async def run(words: list[str], seconds: float | None = None) -> Done:
-    """Runs a process to its end. It is killed when its time is over, or if this is cancelled."""
+    """Runs a process to its end. It is killed when its time is over, or if the caller is cancelled."""
     began = time.monotonic()
     async with started(words) as (process, _):
         # The empty input closes the pipe.

@@ -1,4 +1,4 @@
-"""The command line of `ggp_competition`."""
+"""The command line of `ggp_competition`. Modules that only some commands need are loaded only by these, because loading takes long."""
 
 import argparse
 import os
@@ -8,27 +8,22 @@ from collections import Counter
 from collections.abc import Callable, Iterable, Iterator
 
 from ggp_tools import VERSION
-from ggp_tools.competition.archive import check_archive, matches_text, publish
 from ggp_tools.competition.files import Refused, file_bytes, held, write_whole
 from ggp_tools.competition.game import add_game, run_game
 from ggp_tools.competition.init_file import add_init, write_first_file
 from ggp_tools.competition.known import Known
 from ggp_tools.competition.call_logs import faults_of_logs
 from ggp_tools.competition.match_files import check_records
-from ggp_tools.competition.packing import TooLarge
-from ggp_tools.competition.pages import Pages
+from ggp_tools.competition.match_lines import matches_text
 from ggp_tools.competition.plan import WRITES, Plan, Unplanned, faults_of_descriptions, make_plan, next_plan, order_again, read_plan, round_words, rounds_left
-from ggp_tools.competition.playing import Playing, play
 from ggp_tools.competition.results import Result
 from ggp_tools.competition.schedule import Match
 from ggp_tools.referee import NoReferee, Referee, Unchecked, find_program
 from ggp_tools.competition.serving import add_serve, run_serve
 from ggp_tools.competition.table import tables_of
 from ggp_tools.competition.table_text import in_order, joined, table_files, table_text, without_record
-from ggp_tools.competition.trying import run_try
-from ggp_tools.competition.why import explanation
 from ggp_tools.printable import counted, printable
-from ggp_tools.reporting import Journal, Reporter
+from ggp_tools.reporting import NOT_BEGUN, Journal, Reporter
 from ggp_tools.streams import PACKED, ready_streams, say, whole
 
 MOST_AT_ONCE = 1_024
@@ -96,7 +91,7 @@ def arguments(words: list[str]) -> argparse.Namespace:
     return parser.parse_args(words)
 
 
-def write_matches(plan: Plan, results: list[Result]) -> None:
+def write_matches(plan: Plan, results: list[Result], known: Known | None = None) -> None:
     """Writes matches.jsonl. Reports which matches have no log, and therefore no times."""
     lacking = [result.match.id for result in results if not plan.folder.has_log(result.match.id)]
     if lacking[1:]:
@@ -104,11 +99,11 @@ def write_matches(plan: Plan, results: list[Result]) -> None:
         print(f"ggp_competition: {span} count, but without times, because their logs are missing", file=sys.stderr)
     elif lacking:
         print(f"ggp_competition: {lacking[0]} counts, but without times, because its log is missing", file=sys.stderr)
-    write_whole(plan.folder.matches, matches_text(plan, results))
+    write_whole(plan.folder.matches, matches_text(plan, results, known))
 
 
 def known_results(plan: Plan, referee: Referee, known: Known | None) -> tuple[list[Result], bool]:
-    """Returns the results that count, in the order of the schedule, and whether there are records that do not count. Reports why they do not."""
+    """Returns the results that count, in the order of the schedule, and whether there are records that do not count. Reports why these do not."""
     results, faults, misfits = check_records(plan, referee, known)
     for match, why in {**faults, **misfits}.items():
         print(f"ggp_competition: {match} does not count: {why}", file=sys.stderr)
@@ -203,16 +198,19 @@ def error_of_pages(write: Callable[..., object], *arguments: object) -> str | No
         return f"pages are not written: {why.filename or 'a file'}: {why.strerror}"
 
 
-def missing_lines(missing: dict[str, str]) -> Iterator[str]:
-    """Yields lines about the missing matches, with the reasons. Many matches with the same reason are reported on one line."""
+def missing_rows(missing: dict[str, str]) -> Iterator[tuple[str, list[str]]]:
+    """Yields rows about the missing matches, with the reasons, and for each row the rows of the journal. Many matches with the same reason share a
+    row. In the journal each match that was given up has a row, because the live pages read the reason there."""
     by_reason: dict[str, list[str]] = {}
     for match, why in missing.items():
         by_reason.setdefault(why, []).append(match)
     for why, matches in by_reason.items():
-        if len(matches) > MOST_LINES:
-            yield f"missing {len(matches):,} matches between {matches[0]} and {matches[-1]}: {why}"
+        rows = [f"missing {match}: {why}" for match in matches]
+        if len(rows) <= MOST_LINES:
+            yield from ((row, [row]) for row in rows)
         else:
-            yield from (f"missing {match}: {why}" for match in matches)
+            shared = f"missing {len(matches):,} matches between {matches[0]} and {matches[-1]}: {why}"
+            yield shared, [shared] if why == NOT_BEGUN else rows
 
 
 def run_play(asked: argparse.Namespace, referee: Referee) -> int:
@@ -230,9 +228,13 @@ def run_play(asked: argparse.Namespace, referee: Referee) -> int:
 
 
 def play_planned(plan: Plan, asked: argparse.Namespace, referee: Referee) -> int:
+    from ggp_tools.competition.playing import Playing, play
+
     reporter = Reporter(Journal(plan.folder.journal))
     playing = Playing(plan, referee, reporter, asked.at_once)
     if asked.watch:
+        from ggp_tools.competition.pages import Pages
+
         pages = Pages(plan)
         playing.watch = lambda results: error_of_pages(pages.write_now_and_then, lambda: in_order(plan, results))
     missing = play(playing)
@@ -240,8 +242,8 @@ def play_planned(plan: Plan, asked: argparse.Namespace, referee: Referee) -> int
     lacks_pages = error_of_pages(pages.write, in_order(plan, playing.results)) if asked.watch else None
     if lacks_pages:
         reporter.line(lacks_pages)
-    for line in missing_lines(missing):
-        reporter.sum_up(line)
+    for row, in_journal in missing_rows(missing):
+        reporter.sum_up(row, *in_journal)
     left = rounds_left(plan)
     if plan.competition.pause and (following := next_plan(plan, playing.results)):
         reporter.sum_up(f"pause: the next `ggp_competition play` plays {round_words(following)}")
@@ -262,11 +264,11 @@ def run_table(asked: argparse.Namespace, referee: Referee) -> int:
     plan, known = joined(plans), [Known(plan.folder.path) for plan in plans]
     checked = [known_results(plan, referee, facts) for plan, facts in zip(plans, known)]
     results = [result for results, _ in checked for result in results]
-    tables = tables_of(plan.competition, results, plan.rounds)
+    tables = tables_of(plan.competition, results, plan.rounds, known=known[0])
     # The table is printed even if it can't be written.
     say(table_text(plan, tables), end="")
     if len(plans) == 1:
-        write_matches(plan, results)
+        write_matches(plan, results, known[0])
     directory = plan.folder.path if len(plans) == 1 else asked.to and pathlib.Path(asked.to)
     for name, data in table_files(plan, tables).items() if directory else ():
         write_whole(directory / name, data)
@@ -276,6 +278,8 @@ def run_table(asked: argparse.Namespace, referee: Referee) -> int:
 
 
 def run_pages(asked: argparse.Namespace, referee: Referee) -> int:
+    from ggp_tools.competition.pages import Pages
+
     plan = read_plan(asked.folder, referee)
     known = Known(plan.folder.path)
     results, is_faulty = known_results(plan, referee, known)
@@ -303,6 +307,9 @@ def archive_path(plan: Plan, to: str | None) -> pathlib.Path:
 
 
 def run_publish(asked: argparse.Namespace, referee: Referee) -> int:
+    from ggp_tools.competition.archive import publish
+    from ggp_tools.competition.packing import TooLarge
+
     # No other run changes the plan until the archive is written.
     with held(asked.folder):
         plan = read_plan(asked.folder, referee)
@@ -318,7 +325,7 @@ def run_publish(asked: argparse.Namespace, referee: Referee) -> int:
         faults = faults or list(faults_of_descriptions(plan, plan.folder.description, f", and {WRITES}"))
         faults = faults or [f"{fault}; the match also counts without its log" for fault in faults_of_logs(plan, results, is_published=False)]
         if not faults:
-            write_matches(plan, results)
+            write_matches(plan, results, known)
             try:
                 say(f"{publish(plan, referee, results, path, known)}  {path.name}")
                 known.write()
@@ -329,7 +336,15 @@ def run_publish(asked: argparse.Namespace, referee: Referee) -> int:
         return bool(faults)
 
 
+def run_try(asked: argparse.Namespace, referee: Referee) -> int:
+    from ggp_tools.competition import trying
+
+    return trying.run_try(asked, referee)
+
+
 def run_why(asked: argparse.Namespace, referee: Referee) -> int:
+    from ggp_tools.competition.why import explanation
+
     for line in explanation(read_plan(asked.folder, referee), asked.match, asked.player):
         # The directory may come from an archive, whose journal and logs may have any bytes.
         say(printable(line))
@@ -344,6 +359,8 @@ def run_check(asked: argparse.Namespace, referee: Referee) -> int:
 
 def check_one(archive: str, referee: Referee) -> bool:
     """Checks an archive. Returns whether it has errors."""
+    from ggp_tools.competition.archive import check_archive
+
     faults, said = check_archive(pathlib.Path(archive), referee)
     for fault in faults:
         print(f"ggp_competition: {archive}: {fault}", file=sys.stderr)

@@ -1,5 +1,6 @@
 """Reads competition.toml: the games, the players and the form. Reports each mistake with its line and key."""
 
+import functools
 import re
 from collections.abc import Callable, Iterable, Mapping, Sequence
 from dataclasses import dataclass, field, fields
@@ -17,9 +18,9 @@ MARK = b"\xef\xbb\xbf"
 CONTROL = re.compile(r"[\x00-\x1f\x7f-\x9f]")
 # A message has at most this many characters of a key or a value, and at most this many mistakes of a file are reported.
 MOST_SHOWN, MOST_MISTAKES = 200, 100
-# The greatest size of the file.
+# The maximum size of the file.
 MOST_OF_COMPETITION = 4 << 20
-# The greatest number of matches at a time, for a player and for a launcher.
+# The maximum number of matches at a time, for a player and for a launcher.
 MOST_AT_A_TIME = 1_024
 MOST_SECONDS, MOST_STRIKES, MOST_PLAYERS, MOST_GAMES, MOST_ROUNDS, MOST_PORT = 86_400, 255, 1_000, 1_000, 1_000, 65_535
 # When a player with a command is restarted: if it is dead, for each match, or never.
@@ -28,7 +29,7 @@ PORT = "{port}"
 RUNS_ELSEWHERE = "a program that runs its arguments on another machine"
 MEMORY = re.compile("[1-9][0-9]{0,5}[KMGT]")
 MOST_PROCESSORS, MOST_START_SECONDS, MOST_RATING = 4_096, 3_600, 10_000
-# The default time limit for making a description ground, in seconds, and the greatest one.
+# The default time limit for making a description ground, in seconds, and the maximum.
 INSTANTIATING, MOST_INSTANTIATING = 60, 1_000_000
 # The forms that plan each round from the results of the previous one.
 ROUND_KINDS = SWISS, KNOCKOUT = "swiss", "knockout"
@@ -294,8 +295,8 @@ class Game:
 
 @dataclass(frozen=True)
 class Command:
-    """How the competition starts a player: `{port}` stands for its port in the command and in the environment. Without a launcher, the player runs on
-    this computer. If `memory` or `processors` is 0, it has no limit."""
+    """How the competition starts a player. In the command and in the environment, `{port}` is replaced with the port of the player. Without a
+    launcher, the player runs on this computer. A `memory` or `processors` of 0 sets no limit."""
 
     words: tuple[str, ...] = read_by(Section.words, "the program, then its arguments", key="command")
     launcher: tuple[str, ...] = read_by(Section.words, RUNS_ELSEWHERE, False)
@@ -399,7 +400,7 @@ def refuse_twice(sections: list[Section], key: str) -> None:
     known = {}
     for section in sections:
         if type(value := section.table.get(key)) is str and known.setdefault(value, section) is not section:
-            section.mistake(key, f"line {known[value].line(key)} has {spelled(value)} already")
+            section.mistake(key, f"line {known[value].line(key)} already has {spelled(value)}")
 
 
 def games_of(root: Section, clocks: dict[str, int | None]) -> tuple[Game, ...]:
@@ -484,7 +485,7 @@ def lines_of_schedule(section: Section, games: set[str], players: set[str]) -> l
             if name not in players:
                 section.mistake("lines", f"there is no player {spelled(name)}", line.line)
             if name in names[:number]:
-                section.mistake("lines", f"the line has the player {spelled(name)} twice", line.line)
+                section.mistake("lines", f"the line names the player {spelled(name)} twice", line.line)
     return lines
 
 
@@ -503,6 +504,8 @@ def root_of(data: bytes, mistakes: list[Mistake]) -> Section:
         raise Mistaken([Mistake(why.line, shown(why.key, MOST_SHOWN), shown(why.words, MOST_SHOWN))]) from None
 
 
+# Once matches have been played, competition.toml is read again as planned.toml.
+@functools.lru_cache(2)
 def read_competition(data: bytes) -> Competition:
     """Returns the competition that a file describes. Raises `Mistaken` with all mistakes in the file."""
     mistakes: list[Mistake] = []

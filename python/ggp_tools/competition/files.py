@@ -21,7 +21,7 @@ UNFINISHED = ".unfinished-"
 PLAYERS = "players"
 # The stages of an open match. An empty file in its directory has the name of the stage.
 STAGES = ASKING, PLAYING, CHECKING = "asking", "playing", "checking"
-# Enough open files for the greatest numbers of matches at the same time, and of connections.
+# Enough open files for the maximum numbers of matches at the same time, and of connections.
 DESCRIPTORS = 16_384
 # The mode of files that only their owner may read: those of open matches, players and `play`, and the key of the ids.
 PRIVATE = 0o600
@@ -66,7 +66,7 @@ def held(path: pathlib.Path) -> Iterator[None]:
 
 def lock_place(folder: str | pathlib.Path) -> str:
     """Returns how /proc/locks names a directory: by its device and its inode number. The device is that of the mount, because some file systems
-    report another one for their files."""
+    report a different one for their files."""
     descriptor = os.open(folder, os.O_PATH | os.O_CLOEXEC)
     try:
         mount = pathlib.Path(f"/proc/self/fdinfo/{descriptor}").read_text("ascii").partition("mnt_id:")[2].split()[0]
@@ -174,7 +174,7 @@ class Folder:
         self.rule_sums, self.description_sums = self.rules / "SHA256SUMS", self.rules / "DESCRIPTIONS.sha256"
         self.records, self.accounts, self.logs = (self.path / name for name in ("records", "accounts", "logs"))
         self.matches, self.pages = self.path / "matches.jsonl", self.path / "pages"
-        # What `play` has done, with the times; and the logs of the players that it starts.
+        # The journal says what `play` has done, and when. The directory `players` has the logs of the players that `play` starts.
         self.journal, self.players = self.path / "play.log", self.path / "players"
 
     def rules_of(self, game: str) -> pathlib.Path:

@@ -11,15 +11,11 @@ from collections.abc import Sequence
 from typing import Any
 
 from ggp_tools.competition.competition_file import INSTANTIATING
-from ggp_tools.descriptions.goals import goals_said
 from ggp_tools.descriptions.loading import MOST_BYTES, NoDescription, Rules, Stopped, has_variables, load_description, sentence_starts
 from ggp_tools.competition.files import Refused
-from ggp_tools.descriptions.random_matches import RandomMatches, TimeIsOver
 from ggp_tools.kif import quoted
 from ggp_tools.printable import counted, shown
 from ggp_tools.referee import Referee, Unchecked
-from ggp_tools.descriptions.refused import why_refused
-from ggp_tools.descriptions.suspicious import NOT_ALL, Suspicions, suspicions
 from ggp_tools.reporting import Reporter
 from ggp_tools.streams import MOST_SECONDS, whole
 
@@ -29,7 +25,7 @@ ends in time, or a record differs from the expected one. 2: the command is wrong
 example because the referee or the grounder was killed or is out of memory, or no temporary file can be written.
 """
 MOST_MATCHES, MOST_SEED = 10_000, 10**18
-# The greatest number of listed seeds, and of bytes of a state.
+# The maximum number of listed seeds, and of bytes of a state.
 LISTED, MOST_STATE = 10, 500
 # `plan` tries at most this many matches until one ends, and begins no turn after this many seconds.
 TRIAL_MATCHES, TRIAL_SECONDS = 5, 10
@@ -51,7 +47,7 @@ def add_game(commands: Any) -> argparse.ArgumentParser:
     command.add_argument("--seed", type=whole(0, MOST_SEED), default=1, metavar="S", help=text)
     text = "the processor time for making a description with variables ground (60)"
     command.add_argument("--instantiate", type=seconds, default=INSTANTIATING, metavar="T", help=text)
-    text = "search for T seconds at most, and begin no turn after T seconds of matches (60)"
+    text = "search for at most T seconds, and begin no turn after T seconds of matches (60)"
     command.add_argument("--seconds", type=seconds, default=60, metavar="T", help=text)
     return command
 
@@ -103,6 +99,8 @@ def load(path: pathlib.Path, text: bytes, referee: Referee, limit: int) -> Rules
 
 def report_game(reporter: Reporter, asked: argparse.Namespace, referee: Referee, path: pathlib.Path, text: bytes) -> bool:
     """Reports on a description. Returns whether the description is refused, or something is wrong with its matches."""
+    from ggp_tools.descriptions.refused import why_refused
+
     reporter.draw("the description")
     try:
         rules = load(path, text, referee, asked.instantiate)
@@ -128,6 +126,8 @@ def counts_of_rules(text: bytes, rules: Rules) -> str:
 
 
 def report_suspicions(reporter: Reporter, asked: argparse.Namespace, text: bytes, ground: bytes | None) -> None:
+    from ggp_tools.descriptions.suspicious import NOT_ALL, Suspicions, suspicions
+
     reporter.draw("what is suspicious")
     suspicious = suspicions(text, ground, asked.seconds) if len(text) <= MOST_BYTES else Suspicions([], NOT_ALL)
     for line in suspicious.lines:
@@ -142,7 +142,10 @@ def report_suspicions(reporter: Reporter, asked: argparse.Namespace, text: bytes
 
 
 def report_matches(reporter: Reporter, asked: argparse.Namespace, referee: Referee, text: bytes, rules: Rules) -> bool:
-    """Plays random matches, and reports how they ended. Returns whether anything is wrong with one, or none ended."""
+    """Plays random matches, and reports how they ended. Returns whether anything is wrong with one of them, or whether none ended."""
+    from ggp_tools.descriptions.goals import goals_said
+    from ggp_tools.descriptions.random_matches import RandomMatches
+
     played = RandomMatches(rules.text, referee.taking(rules.is_large), asked.file, reporter, asked.seconds)
     played.run(asked.seed, asked.matches)
     ended, aborted = played.ended, Counter(match.cause for match in played.ended if match.cause)
@@ -170,7 +173,7 @@ def report_matches(reporter: Reporter, asked: argparse.Namespace, referee: Refer
 
 
 def aborted_line(cause: str, ended: list) -> str:
-    """Describes the matches that were aborted with a cause."""
+    """Describes the matches that were aborted with this cause."""
     first = ended[0]
     seeds = ", ".join(str(match.seed) for match in ended[:LISTED]) + (", .." if len(ended) > LISTED else "")
     state = shown(" ".join(first.state), MOST_STATE) or "empty"
@@ -196,6 +199,8 @@ def report_figures(reporter: Reporter, roles: Sequence[str], ended: list) -> Non
 def trial(rules: bytes, referee: Referee, name: str) -> tuple[str | None, str | None]:
     """Plays random matches of a game before it is planned: if none of them ends, the description is most likely wrong. Returns the error, and a note
     if there is no verdict. Both are None if a match ends."""
+    from ggp_tools.descriptions.random_matches import RandomMatches, TimeIsOver
+
     reporter = Reporter()
     try:
         played = RandomMatches(rules, referee, name, reporter, TRIAL_SECONDS)

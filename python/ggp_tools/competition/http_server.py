@@ -26,10 +26,11 @@ Value = TypeVar("Value")
 # The directory is read every INTERVAL seconds. If a page has no changes, its visitor is sent a row every ALIVE seconds, to detect when the visitor
 # has left.
 INTERVAL, ALIVE = 1.0, 10.0
-# The head of a request must arrive within HEAD seconds and have at most LONGEST_HEAD bytes. The visitor must accept data within PATIENCE seconds.
-HEAD, LONGEST_HEAD, PATIENCE = 5, 16_384, 20
-# How many connections may wait to be accepted, and how many are accepted at a time: few, so that the heads of earlier ones are read first. Until its
-# head is read, a connection of a proxy does not show its client, and may have to give way.
+# The head of a request must arrive within HEAD seconds and have at most LONGEST_HEAD bytes. The visitor must accept each piece of data within PATIENCE
+# seconds, and the piece at byte N of an answer within PATIENCE + N / SLOWEST seconds after the beginning of the answer.
+HEAD, LONGEST_HEAD, PATIENCE, SLOWEST = 5, 16_384, 20, 1 << 15
+# How many connections may wait to be accepted, and how many are accepted at a time: few, so that the heads of earlier ones are read first. The head
+# of a request from a proxy shows the client, so until it is read, the connection may have to give way.
 BACKLOG, AT_A_TIME = 128, 4
 BUSY = b"HTTP/1.1 503 Service Unavailable\r\nRetry-After: 10\r\nContent-Length: 0\r\nConnection: close\r\n\r\n"
 HEADERS = {
@@ -140,7 +141,8 @@ class Server:
         self.headers = {**HEADERS, "Content-Security-Policy": f"frame-ancestors {' '.join(origins or NOBODY)}"}
         self.thread, self.other_thread = concurrent.futures.ThreadPoolExecutor(1), concurrent.futures.ThreadPoolExecutor(1)
         sys.setrecursionlimit(MOST_CALLS)
-        # A lock for each client that waits for a thread, and one for the pages that follow from results, which take longer than the others.
+        # One lock for each client that is waiting for a thread, and one lock for the pages that are computed from results. These pages take longer than
+        # the others.
         self.turns: weakref.WeakValueDictionary[str, asyncio.Lock] = weakref.WeakValueDictionary()
         self.long_turn = asyncio.Lock()
         self.updated = asyncio.Event()
@@ -150,7 +152,7 @@ class Server:
         answering, family = web.Server(self.answer), socket.AF_INET6 if ":" in address else socket.AF_INET
         listening = socket.create_server((address, port), family=family, backlog=BACKLOG, dualstack_ipv6=address == "::")
         self.listener = await asyncio.get_running_loop().create_server(lambda: Connection(self.visitors, answering), sock=listening, backlog=AT_A_TIME)
-        # The event loop has made the queue as short as the number that it accepts at a time.
+        # `create_server` has limited the queue to the number of connections that the event loop accepts at a time.
         listening.listen(BACKLOG)
         self.address, port, *_ = listening.getsockname()
         return self.address, port
@@ -167,8 +169,8 @@ class Server:
         return await asyncio.get_running_loop().run_in_executor(self.thread, function, *values)
 
     async def for_client(self, client: str, function: Callable[[str], Value], path: str) -> Value:
-        """Calls a function for a client in the site's thread, and if it returns a function, calls that in the other one. Only one call of each client
-        waits for the threads, and only one call for a page that follows from results."""
+        """Calls a function for a client in the site's thread. If the function returns another function, calls this one in the other thread. Only one call
+        of each client waits for the threads, and only one call for a page that is computed from results."""
         is_long = path != FIRST and path[1:] in self.site.made
         async with self.turns.setdefault(client, asyncio.Lock()), self.long_turn if is_long else contextlib.nullcontext():
             result = await self.on_site(function, path)
@@ -255,9 +257,12 @@ class Server:
         response = web.StreamResponse(status=status, headers={**headers, "Content-Length": str(len(data))})
         response.force_close()
         self.note_answer(request.protocol, data)
-        async with asyncio.timeout(PATIENCE):
+        clock = asyncio.get_running_loop().time
+        began = clock()
+        async with asyncio.timeout(PATIENCE) as limit:
             await response.prepare(request)
             for at in range(0, len(data) if request.method != "HEAD" else 0, PIECE):
+                limit.reschedule(min(clock(), began + at / SLOWEST) + PATIENCE)
                 await response.write(memoryview(data)[at : at + PIECE])
             await response.write_eof()
         return response
@@ -284,7 +289,7 @@ class Server:
             return response
 
     async def send_changes(self, response: web.StreamResponse, page: OpenPage, version: int, stays: Callable[[], bool]) -> None:
-        """Sends the changes of a page since a version, until the page is final or another stream takes the place of this one. Sending fails once
+        """Sends the changes to a page since a version, until the page is final or another stream takes the place of this one. Sending fails once
         the visitor is gone."""
         is_last = False
         while not is_last and stays():

@@ -21,7 +21,7 @@ FORMS = {
 TEMPLATE = """# docs/COMPETITION.md explains all keys.
 name = "{name}"
 start = {start}        # seconds for START, in which a player reads the rules
-play = {play}         # seconds for every other message
+play = {play}          # seconds for each PLAY, STOP and ABORT
 strikes = 3       # a player is retired in a match after this many replaced moves in a row
 forfeit = true    # a player that was retired in a match has lost it
 absent = "play"   # matches with silent players are played, too; "leave": they are not
@@ -63,7 +63,7 @@ def add_init(command: argparse.ArgumentParser) -> None:
         value = {"metavar": word, "type": lambda more, form=form: (form, more)} if word else {"action": "store_const", "const": (form, "")}
         forms.add_argument(f"--{form}", dest="form", help=text, **value)
     command.add_argument("--final", metavar="N", help="after a Swiss competition the best N players play a knockout")
-    command.add_argument("--players", metavar="NAME=HOST:PORT,..", help="the players (none: add them to the file)")
+    command.add_argument("--players", metavar="NAME=HOST:PORT,..", help="the players (default: none; add them to the file later)")
     command.add_argument("--start", metavar="S", default="10", help="seconds for START (10)")
     command.add_argument("--play", metavar="S", default="5", help="seconds for each other message (5)")
 
@@ -74,7 +74,7 @@ def ask_for_the_rest(asked: argparse.Namespace) -> None:
     if form not in FORMS:
         raise Refused(f"{form!r} is not one of {', '.join(FORMS)}")
     asked.form = form, more or True
-    asked.players = asked.players or input("Players, such as ann=192.0.2.7:9147,bob=192.0.2.8:9147 (none: add them to the file): ")
+    asked.players = asked.players or input("Players, such as ann=192.0.2.7:9147,bob=192.0.2.8:9147 (empty: add them to the file later): ")
 
 
 def game_entry(word: str, folder: pathlib.Path) -> str:

@@ -20,7 +20,7 @@ END_SECONDS, LOST_SECONDS = 3, 10
 # A job ends its processes if this program sends nothing for this many seconds, so that the match can be started elsewhere. On this computer, a job
 # notices at once when this program has ended, and this program may be silent, for example while it is stopped by Ctrl-Z.
 SILENCE, HERE_SILENCE = 20, 10**9
-# The greatest length of the name of a node, and of a process with its address.
+# The maximum length of the name of a node, and of a process with its address.
 MOST_OF_NAME = 300
 JOB = pathlib.Path(__file__).with_name("job.py").absolute()
 
@@ -53,7 +53,7 @@ class Job:
         self.process.stdin.write(json.dumps(task).encode() + b"\n")
 
     async def came_up(self) -> bool:
-        """Waits until the job runs on its node, or has ended. Returns whether it runs."""
+        """Waits until the job is running on its node, or has ended. Returns whether it is running."""
         starting = asyncio.create_task(self.is_up.wait())
         await asyncio.wait([self.running, starting], return_when=asyncio.FIRST_COMPLETED)
         starting.cancel()

@@ -8,6 +8,7 @@ import os
 import pathlib
 import pickle
 import sys
+import threading
 import typing
 
 from ggp_tools.competition.files import opened_file
@@ -57,27 +58,37 @@ class Facts(pickle.Unpickler):
         raise pickle.UnpicklingError(f"{module}.{name} is not a fact")
 
 
+def facts_in(data: bytes | None) -> dict[str, typing.Any]:
+    """Returns stored facts, or none if these bytes are anything else."""
+    try:
+        facts = Facts(io.BytesIO(data)).load() if data else {}
+    except (RuntimeError, pickle.UnpicklingError):
+        return {}
+    return facts if isinstance(facts, dict) else {}
+
+
 class Known:
-    """The known facts about a competition's directory. Each kind of fact has values, by keys that are checksums."""
+    """The known facts about a competition's directory. Each kind of fact maps checksums to values, and is stored as bytes, which are read when the first
+    fact of this kind is needed."""
 
     def __init__(self, folder: pathlib.Path) -> None:
         # Another version of the code may find other facts, and can't read these.
         code = [file.read_bytes() for file in sorted(PACKAGE.rglob("*")) if file.suffix in CODE]
         self.name = sum_of_parts(os.fsencode(folder.absolute()), sys.version.encode(), *code)
-        self.before, self.used = self.read(), {}
+        # The stored facts are ignored if their file has changed since it was written, or if another user may have written it.
+        self.before, self.read, self.used = facts_in(cached(KIND, self.name)), {}, {}
+        self.lock = threading.Lock()
 
-    def read(self) -> dict[str, dict[str, typing.Any]]:
-        """Returns the stored facts, or none if the file has changed since it was written, or if another user may have written it."""
-        data = cached(KIND, self.name)
-        try:
-            facts = Facts(io.BytesIO(data)).load() if data else {}
-        except (RuntimeError, pickle.UnpicklingError):
-            return {}
-        return facts if isinstance(facts, dict) else {}
+    def facts(self, kind: str) -> dict[str, typing.Any]:
+        """Returns the stored facts of a kind. Only one thread reads them."""
+        with self.lock:
+            if kind not in self.read:
+                self.read[kind] = facts_in(self.before.get(kind))
+            return self.read[kind]
 
     def get(self, kind: str, key: str) -> typing.Any:
         """Returns a value, or None if it is not known."""
-        value = self.before.get(kind, {}).get(key)
+        value = self.facts(kind).get(key)
         if value is not None:
             self.put(kind, key, value)
         return value
@@ -86,9 +97,8 @@ class Known:
         self.used.setdefault(kind, {})[key] = value
 
     def write(self) -> None:
-        """Stores the facts. If facts of a kind were used, it drops the unused ones of that kind. Facts that cannot be stored are found again the next
+        """Stores the facts. Drops the unused facts of each kind from which other facts were used. Facts that cannot be stored are found again the next
         time."""
-        facts = {**self.before, **self.used}
-        data = pickle.dumps(facts) if facts != self.before else b""
-        if 0 < len(data) <= MOST_BYTES:
+        new = {kind: pickle.dumps(values) for kind, values in self.used.items() if values != self.facts(kind)}
+        if new and len(data := pickle.dumps(self.before | new)) <= MOST_BYTES:
             store(KIND, self.name, data, MOST_KEPT)

@@ -23,7 +23,6 @@ from ggp_tools.competition.files import ASKING, STAGES, Folder, lock_place, open
 from ggp_tools.competition.live_board import Answers, LiveBoard, last_states
 from ggp_tools.competition.pages import MOST_OF_LOG, Ended, ended_match
 from ggp_tools.competition.plan import Plan
-from ggp_tools.competition.playing import NOT_BEGUN
 from ggp_tools.competition.replaced import Replaced, newest, replaced_moves
 from ggp_tools.competition.results import Result, counted_result, fault_of_record
 from ggp_tools.competition.schedule import Match
@@ -33,6 +32,7 @@ from ggp_tools.moments import MOMENT
 from ggp_tools.records.match_logs import logged
 from ggp_tools.records.show import NoRecord, read_record
 from ggp_tools.referee import Referee
+from ggp_tools.reporting import NOT_BEGUN
 
 # Listing all records takes at most a tenth of the time, and one update reads them for READING seconds. The record of a match that was open is read
 # at once.
@@ -43,9 +43,10 @@ LISTS = 5
 # The board of a match stays for this many seconds after its end.
 STAYS = 60
 FAULT = "these pages may show wrong data for this match because of an error in ggp_competition: {!r}"
-# The rows of `play.log` about a player that was restarted, a match that was given up, and a run that began.
+# The rows of `play.log` about a player that was restarted, a match that was given up, a game whose waiting matches were, and a run that began.
 RESTARTED = re.compile(rf"{MOMENT} restart (\S+) (\S+): .*\n")
 GIVEN_UP = re.compile(rf"{MOMENT} (?:no record|missing) (\S+): (?!{NOT_BEGUN}\n)(.*)\n")
+STOPPED = re.compile(rf"{MOMENT} stopped (\S+), because (\S+) does not follow its description; .*\n")
 BEGUN = re.compile(rf"{MOMENT} play [0-9,]+ match(es)?\n")
 # Asking the referee takes at most a quarter of the time.
 REFEREE_SHARE = 3
@@ -55,8 +56,9 @@ OUT_OF_FILES = errno.EMFILE, errno.ENFILE
 WHOLE_PATH = re.compile(r"(?<![\w./-])/(?:[^\s/]+/)*(?=[^\s/])")
 
 
-# Number, size and time of a file, which change if it is replaced or written again; and those of a missing file.
+# The number, the size and the time of a file. They change if the file is replaced or written again.
 Identity = tuple[int, int, int]
+# The identity of a missing file.
 NOWHERE: Identity = (0, 0, 0)
 
 
@@ -73,7 +75,7 @@ class OpenFiles(NamedTuple):
 
 
 class Snapshot(NamedTuple):
-    """The directory at one time of the clock: the open matches, the journal, and whether `play` was running."""
+    """The directory at one moment: the open matches, the journal, and whether `play` was running."""
 
     moment: float
     matches: dict[str, OpenFiles]
@@ -97,7 +99,7 @@ class Delay:
         return time.time() - self.seconds
 
     def snapshot(self, matches: dict[str, OpenFiles], journal: Extent, is_running: bool) -> Snapshot:
-        """Takes the directory as it is now. Returns it as it was at the moment that is shown: empty before the first update."""
+        """Stores the present state of the directory. Returns its state at the moment that is shown, which is empty before the first update."""
         now = clock()
         self.snapshots.append(Snapshot(now, matches, journal, is_running))
         while len(self.snapshots) > 1 and self.snapshots[1].moment <= now - self.seconds:
@@ -106,7 +108,8 @@ class Delay:
         return first if first.moment <= now - self.seconds else Snapshot(now, {}, Extent(0), first.is_running)
 
     def has_passed(self, name: str, value: object, age: float = 0.0) -> bool:
-        """Returns whether a value is the same as at the moment that is shown. A value that is seen for the first time is this many seconds old."""
+        """Returns whether a value is the same as at the moment that is shown. A value that is seen for the first time counts as this many seconds
+        old."""
         if self.seconds and self.values.get(name, (None,))[0] != value:
             self.values[name] = value, clock() - age
         return not self.seconds or clock() - self.values[name][1] >= self.seconds
@@ -337,17 +340,19 @@ class Reader:
         self.replaced: list[Replaced] = []
         self.version, self.results_version, self.is_running = 0, 0, False
         self.next_listing, self.next_advance = 0.0, 0.0
-        # Why `play` has given matches up.
+        # Why `play` has given matches up, and these matches including those that are not shown yet.
         self.journal, self.given_up = Tail(str(plan.folder.journal), functools.partial(str, encoding="ascii", errors="replace")), {}
+        self.left: set[str] = set()
         commands = {player.name: player.command for player in plan.competition.players}
         self.restarting = {name for name, command in commands.items() if command and command.restart != EACH_MATCH}
         self.news: list[News] = []
-        # How often each player was restarted, and for which match the last time.
+        # How often each player was restarted, and for which match it was last restarted.
         self.restarted: dict[str, tuple[int, str]] = {}
 
     def update(self) -> Iterator[None]:
         """Reads what has changed since the last update. Yields after each of many records, so that a page can be made then."""
-        # The size of the journal is read before those of the logs, so what it says happened before.
+        # The size of the journal is read first, then the sizes of the logs. So everything that this part of the journal reports happened before the
+        # logs had these sizes.
         journal = extent_at(self.plan.folder.journal, self.delay.seconds > 0)
         shown = self.delay.snapshot(self.read_open_files(), journal, is_locked(self.plan.folder.path))
         gone = self.update_open(shown.matches)
@@ -439,9 +444,10 @@ class Reader:
     def take_row(self, row: str) -> None:
         """Takes a row of the journal: which matches were given up, and why, and which players were restarted. A new run again plays the matches that
         earlier runs gave up."""
-        restarted, given_up = RESTARTED.fullmatch(row), GIVEN_UP.fullmatch(row)
+        restarted, given_up, stopped = RESTARTED.fullmatch(row), GIVEN_UP.fullmatch(row), STOPPED.fullmatch(row)
         if BEGUN.fullmatch(row):
             self.given_up.clear()
+            self.left.clear()
             self.restarted.clear()
             self.news.clear()
             self.version += 1
@@ -449,25 +455,42 @@ class Reader:
             self.show_later([restarted[2]], functools.partial(self.count_restart, restarted[2], restarted[1]))
         elif given_up and (match := self.known.get(given_up[1])):
             reason = for_visitors(self.plan.folder, given_up[2])
+            self.left.add(match.id)
             self.show_later(match.players, functools.partial(self.given_up.__setitem__, match.id, reason))
+        elif stopped:
+            reason = f"{stopped[1]} is not played any more, because {stopped[2]} does not follow its description"
+            waiting = [match.id for match in self.waiting() if match.game == stopped[1] and not self.plan.folder.record(match.id).exists()]
+            self.given_up |= dict.fromkeys(waiting, reason)
+            self.left.update(waiting)
+            self.version += 1
 
     def count_restart(self, player: str, match: str) -> None:
         self.restarted[player] = self.restarted.get(player, (0,))[0] + 1, match
 
     def show_later(self, players: Iterable[str], show: Callable[[], None]) -> None:
-        """Shows what the journal says about players, once `show_news` finds that their matches that are open now allow it."""
+        """Stores what the journal says about players. `show_news` shows it once their matches that are open now allow it."""
         self.news.append(News(show, {name: None for name, other in self.open.items() if not set(players).isdisjoint(other.match.players)}))
 
     def show_news(self) -> None:
-        """Shows what the journal says about players, once the rounds that were open then are finished, because a dead or silent player did not answer
-        in these rounds."""
+        """Shows what the journal says about players once the rounds that were open at that time are finished, because a dead or silent player did not
+        answer in these rounds."""
         for news in self.news:
-            still_open = ((self.open[name], name, at) for name, at in news.rounds.items() if name in self.open)
-            news.rounds = {name: match.open_round() if at is None else at for match, name, at in still_open if at is None or match.turn() <= at}
+            news.rounds = {name: self.round_of(name, at) for name, at in news.rounds.items() if self.is_open(name, at)}
             if not news.rounds:
                 news.show()
                 self.version += 1
         self.news = [news for news in self.news if news.rounds]
+
+    def is_open(self, name: str, at: int | None) -> bool:
+        """Returns whether a round of a match may be open. The round of a match that was broken off counts as open until the match has got further, or
+        is over, or was given up."""
+        match = self.open.get(name)
+        if match:
+            return at is None or match.turn() <= at
+        return not any(name in ended for ended in (self.results, self.faults, self.left))
+
+    def round_of(self, name: str, at: int | None) -> int | None:
+        return self.open[name].open_round() if at is None and name in self.open else at
 
     def advance(self, until: float, first: Container[str] = ()) -> None:
         """Asks the referee about the answers of open matches, beginning with these matches, until this time. Then shows news."""
@@ -527,7 +550,7 @@ class Reader:
         return record
 
     def forget(self, name: str) -> None:
-        """Removes the result of a match, and why its record does not count."""
+        """Removes the result of a match, and the reason why its record does not count."""
         self.identities.pop(name, None)
         self.faults.pop(name, None)
         if self.results.pop(name, None):
@@ -554,7 +577,7 @@ class Reader:
             self.refuse(name, FAULT.format(why))
 
     def refuse(self, name: str, why: str, files: tuple[Identity, Identity] | None = None) -> None:
-        """Notes why a record does not count. It is read again unless the match still has these files."""
+        """Notes why a record does not count. The record is read again unless the match still has these files."""
         self.forget(name)
         self.faults[name], self.identities[name] = why, files
 
@@ -578,7 +601,8 @@ class Reader:
             self.ended[match.id] = clock(), last_states(record["states"])
 
     def run_of(self, name: str) -> tuple[list[Event], bool]:
-        """Returns the last run in the log of a match, or in its last part, and whether there is more. There are no events if it can't be read."""
+        """Returns the last run in the log of a match, or in its last part, and whether there is more. There are no events if the log can't be
+        read."""
         try:
             log, is_cut = self.plan.folder.part_of_log(name, MOST_OF_LOG)
         except OSError as why:

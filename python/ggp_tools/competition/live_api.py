@@ -13,7 +13,7 @@ from ggp_tools.competition.schedule import Match
 from ggp_tools.competition.table import Table
 from ggp_tools.records.match_logs import logged
 
-# The paths: the events, and the others.
+# The paths of the events and of the metrics, and the pattern of all other paths.
 FEED, METRICS = "/api/events", "/metrics"
 API = re.compile(r"/api/(?:(table)|matches(?:\?page=([1-9][0-9]{0,5}))?|matches/([A-Za-z0-9_.-]+))")
 # A page of the list and an event each have at most this many matches.
@@ -80,7 +80,7 @@ def record_keys(reader: Reader, match: Match) -> Keys:
 
 
 def snapshot(reader: Reader, table: object) -> Keys:
-    """Returns the data of the event stream: the keys or results of the matches that do not wait, and the table's version under an empty name."""
+    """Returns the data of the event stream: the keys or results of the matches that are not waiting, and the table's version under an empty name."""
     names = [*reader.open, *reader.given_up, *reader.faults]
     return {TABLE: table, **{name: match_keys(reader, reader.known[name]) for name in names}, **reader.results}
 

@@ -95,7 +95,7 @@ class LiveBoard:
         self.answers.setdefault(message.turn(), {})[message.role] = message
 
     def is_finished(self, at: int) -> bool:
-        """Returns whether all roles that owe an answer now have answered in a round."""
+        """Returns whether all roles that currently owe an answer have given one in a round."""
         return at in self.answers and self.position.owing <= self.answers[at].keys()
 
     def lacks_line(self) -> bool:
@@ -126,14 +126,19 @@ class LiveBoard:
         """Asks the referee for the moves of the rounds that are known to be finished. Returns those that are recorded now, or None if there is no
         verdict."""
         now = self.position.round()
-        rounds = {at: self.answers[at] for at in itertools.takewhile(self.is_finished, itertools.count(now))}
-        while len(script := self.script(rounds)) > MOST_OF_SCRIPT and len(rounds) > 1:
-            rounds.popitem()
+        script, ends, rounds = bytearray(self.begun()), self.ends(), {}
+        for at in itertools.takewhile(self.is_finished, itertools.count(now)):
+            rows = self.rows_of(at)
+            if rounds and len(script) + len(rows) + len(ends) > MOST_OF_SCRIPT:
+                break
+            rounds[at] = self.answers[at]
+            script += rows
+        script += ends
         if len(script) > MOST_OF_SCRIPT:
             self.trouble, self.is_stuck = TOO_LONG, True
             return None
         try:
-            self.take_verdict(*referee.desk(self.rules, script))
+            self.take_verdict(*referee.desk(self.rules, bytes(script)))
         except Unchecked:
             self.trouble = NO_VERDICT
             return None
@@ -156,28 +161,32 @@ class LiveBoard:
         movers = [*self.position.movers, *(mover_of(state, record["roles"]) for state in record["states"][len(self.position.movers) :])]
         self.position = Position(record["phase"], owing, last_states(record["states"]), record["moves"], known, movers)
 
-    def script(self, rounds: dict[int, Answers]) -> bytes:
-        """Returns the calls up to the end of these rounds. A recorded turn has the moves that were played, and a missing answer for each replaced
-        move."""
+    def begun(self) -> bytes:
+        """Returns the calls up to the end of the recorded turns. They have the moves that were played, and a missing answer for each replaced move."""
         match, position = self.match, self.position
-        rows = [f"strict {match.id} 0 {match.start} {match.play} {self.strikes} {' '.join(match.players)}".encode()]
+        rows = [f"strict {match.id} 0 {match.start} {match.play} {self.strikes} {' '.join(match.players)}\n".encode()]
         if position.round():
-            rows += [b"submit %b %d 0" % (match.id.encode(), role) for role in range(len(match.players))]
+            rows += [b"submit %b %d 0\n" % (match.id.encode(), role) for role in range(len(match.players))]
         for turn, (moves, errors) in enumerate(zip(position.moves, position.errors), 1):
-            for role, (move, error) in enumerate(zip(moves, errors)):
-                if error != "RT":
-                    rows.append(self.call(role, turn, None if error else move, "silent"))
-        for at, answers in rounds.items():
-            for role, message in answers.items():
-                text = "" if message.kind == START else message.answer
-                rows.append(self.call(role, at, None if message.error else text, "silent" if message.error == NO_TIME else "broken"))
-        rows += [f"next {match.id} {role}".encode() for role in range(len(match.players))]
-        return b"".join(row + b"\n" for row in rows)
+            rows += [self.call(role, turn, None if error else move, "silent") for role, (move, error) in enumerate(zip(moves, errors)) if error != "RT"]
+        return b"".join(rows)
+
+    def rows_of(self, at: int) -> bytes:
+        """Returns the calls of a round that is finished and not recorded yet."""
+        rows = []
+        for role, message in self.answers[at].items():
+            text = "" if message.kind == START else message.answer
+            rows.append(self.call(role, at, None if message.error else text, "silent" if message.error == NO_TIME else "broken"))
+        return b"".join(rows)
+
+    def ends(self) -> bytes:
+        """Returns the calls that ask what each role must answer."""
+        return "".join(f"next {self.match.id} {role}\n" for role in range(len(self.match.players))).encode()
 
     def call(self, role: int, at: int, answer: str | None, missed: str) -> bytes:
         """Returns the row of a script in which a role answers in a round, or misses its answer."""
         where = f"{self.match.id} {role} {at} ".encode()
-        return b"miss " + where + missed.encode() if answer is None else b"submit " + where + text_in_line(answer)
+        return b"miss " + where + missed.encode() + b"\n" if answer is None else b"submit " + where + text_in_line(answer) + b"\n"
 
     def turns(self) -> list[Turn]:
         """Returns the last turns, with the log's reasons for missed answers."""

@@ -45,7 +45,7 @@ class Status:
 
 
 def live_part(name: str, macro: str = "", /, **values: object) -> Part:
-    """Returns a part that a macro of live.html makes: the one with the part's name, unless another is given."""
+    """Returns a part that a macro of live.html makes: the macro with the part's name, unless another macro is given."""
     return Part(name, html_of("live", macro or name, **values))
 
 
@@ -94,7 +94,7 @@ def last_board_item(result: Result, state: "Markup", roles: tuple[str, ...]) -> 
 
 
 def restart_words(player: str, restarts: tuple[int, str]) -> str:
-    """Says how often `play` restarted a player, and for which match the last time."""
+    """Says how often `play` restarted a player, and for which match it last did so."""
     count, match = restarts
     return f"{player} was restarted {'once' if count == 1 else f'{count} times, the last time'}, for {match}"
 

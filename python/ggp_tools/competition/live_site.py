@@ -18,7 +18,7 @@ from ggp_tools.competition import live, live_api, live_pages
 from ggp_tools.competition.files import Folder, Refused
 from ggp_tools.competition.live import Delay, LiveMatch, Reader, for_visitors, identity_of
 from ggp_tools.competition.page_parts import PageParts, changes, event_text
-from ggp_tools.competition.pages import PageOf, Site, pages_of, titled
+from ggp_tools.competition.pages import PageOf, Site, need_modules, pages_of, titled
 from ggp_tools.competition.plan import Plan
 from ggp_tools.competition.results import Result
 from ggp_tools.competition.schedule import Match
@@ -33,7 +33,8 @@ if typing.TYPE_CHECKING:
 
 # The tables are computed for at most a tenth of the time, and each update follows boards for at most FOLLOW seconds.
 SHARE, FOLLOW = 10, 0.25
-# For how long a page without viewers is kept, how many pages are kept, and how many changes of a page, with how many bytes.
+# How many seconds a page without viewers is kept, how many pages are kept, and for each page how many changes are kept, and how many bytes these may
+# have in total.
 IDLE, MOST_PAGES, MOST_EVENTS, BYTES_OF_EVENTS = 30.0, 200, 60, 1 << 20
 # How many bytes of pages of finished matches are kept. A browser without JavaScript reloads a page after this many seconds.
 MOST_KEPT, RELOAD = 64 << 20, 10
@@ -53,7 +54,7 @@ def plan_stamp(folder: Folder) -> tuple:
 
 
 def without_new_rounds(plan: Plan, seconds: float) -> Plan:
-    """Returns a plan without the rounds whose pairings follow from record files that are newer than this."""
+    """Returns a plan without the rounds whose pairings follow from record files that are younger than this many seconds."""
     for number in [planned.number for planned in plan.rounds[1:]] if seconds else ():
         files = [plan.folder.record(match.id) for match in plan.matches if match.round == number - 1]
         if any(file.stat().st_mtime > time.time() - seconds for file in files if file.exists()):
@@ -101,7 +102,7 @@ class OpenPage:
 
 
 class Cache(typing.Generic[Value]):
-    """The values that were used last, with at most this many bytes together, or only one. Threads may share it."""
+    """The most recently used values: as many as fit into this many bytes, but at least one. Threads may share it."""
 
     def __init__(self, most: int, size_of: Callable[[Value], int]) -> None:
         self.most, self.size_of, self.lock = most, size_of, threading.Lock()
@@ -122,9 +123,10 @@ class Cache(typing.Generic[Value]):
 
 
 class SiteOfShown(Site):
-    """The pages of the results that are shown, although other files may replace those of the results at any time."""
+    """The pages of the results that are shown. Other files may replace the files of these results at any time."""
 
     def __init__(self, plan: Plan, reader: Reader) -> None:
+        need_modules()
         super().__init__(plan)
         self.reader, self.ended = reader, reader.over
         # Pages and JSON of matches and tables by path, and records with their numbers of bytes by match.
@@ -167,8 +169,8 @@ class LiveSite:
         # No two versions of pages are equal, not even in two runs.
         self.versions = itertools.count(time.time_ns())
         self.pages: OrderedDict[str, OpenPage] = OrderedDict()
-        # The stamp of the plan's files before they were read last. Then the plans that are not shown yet, or why they can't be read, each with its
-        # time.
+        # `plan_stamp` is the stamp of the plan's files before they were last read. `plans` has the plans that are not shown yet, each with its time.
+        # If the files can't be read, it has the reason instead of a plan.
         self.plan_stamp, shown = plan_stamp(plan.folder) if stamp is None else stamp, without_new_rounds(plan, delay)
         self.plans: list[tuple[float, Plan | str]] = [] if shown is plan else [(live.clock(), plan)]
         self.begin(shown)
@@ -355,7 +357,7 @@ class LiveSite:
         if changed:
             version = next(self.versions)
             events = [*page.events[1 - MOST_EVENTS :], (version, event_text(version, {**changed, "now": self.delay.now()}))]
-            # The one before the last change has the version that viewers have.
+            # At least two changes stay: viewers have the version of the one before the last.
             while len(events) > 2 and sum(len(text) for _, text in events) > BYTES_OF_EVENTS:
                 del events[0]
             page.events = tuple(events)

@@ -81,8 +81,8 @@ def account_bytes(folder: Folder, match: str) -> bytes | None:
 
 
 def fault_of_files(record: bytes, account: bytes | None, rules: bytes) -> str | None:
-    """Returns the reason why files cannot be passed to the referee, or None. This finds everything that would make the referee stop, or that it would
-    skip."""
+    """Returns the reason why files cannot be passed to the referee, or None. It finds everything that would make the referee stop, and everything
+    that the referee would skip."""
     if account is None:
         return "its call log is missing"
     if len(account) > LONGEST_ACCOUNT:
@@ -167,7 +167,7 @@ def checks(plan: "Plan", referee: Referee, game: str, matches: Sequence[Match], 
         else:
             left.append((match, record, account, key))
     faults = referee_faults(plan, referee, game, [record for _, record, _, _ in left], [account for _, _, account, _ in left]) if left else ()
-    # If the program or the rules have changed meanwhile, it is not known which of them the referee used.
+    # If the program or the rules have changed meanwhile, it is not known which version the referee used.
     is_same = rule and rule == sum_of_rule(plan, referee, game)
     for (match, record, _, key), fault in zip(left, faults):
         done[match.id] = check_of(plan, match, record, fault)

@@ -17,7 +17,7 @@ from ggp_tools.competition.plan import Plan
 from ggp_tools.competition.results import Result
 from ggp_tools.competition.schedule import Match
 from ggp_tools.match_log import Event, Host, Other, line_of
-from ggp_tools.printable import MOST_READ, printable
+from ggp_tools.printable import MOST_READ, message_lines, printable
 from ggp_tools.records.lengths import LONGEST_ACCOUNT, MOST_TURNS, longest_record
 from ggp_tools.referee import Referee, Unchecked
 
@@ -41,6 +41,12 @@ def leave_players(directory: pathlib.Path) -> None:
         for file in directory.iterdir():
             if file.name != PLAYERS:
                 file.unlink()
+
+
+def reason_of(done: Done, player: str) -> str:
+    """Returns in parentheses why a player did not answer INFO, for example because its HTTP status is not 200, if the referee has reported a reason."""
+    start = f"ggp_manager: {player}: "
+    return next((f" ({line.removeprefix(start)})" for line in message_lines(done.errors) if line.startswith(start)), "")
 
 
 class OpenMatch:
@@ -123,7 +129,7 @@ class OpenMatch:
         if is_silent:
             # Only the elapsed time distinguishes a refused or lost connection from a player that did not answer in time.
             is_refused = done.status is not None and done.seconds < WHOLE
-            answer = "its host name is unknown" if is_unknown else "refused" if is_refused else "silent"
+            answer = "its host name is unknown" if is_unknown else f"refused{reason_of(done, player)}" if is_refused else "silent"
         elif done.status or not answer:
             answer = done.message()
             self.why = self.why or f"{player} could not be asked: {answer}"
@@ -166,7 +172,7 @@ class OpenMatch:
         return self.outcome_of(await run(self.run_words(self.log.absolute())))
 
     def outcome_of(self, done: Done) -> bytes | None:
-        """Returns the referee's output, if its exit status says that it has played the match."""
+        """Returns the output of the referee if the exit status says that the referee has played the match."""
         self.seconds = done.seconds
         if done.status:
             self.why, self.is_broken = done.message(), True
@@ -265,7 +271,7 @@ class Checked(NamedTuple):
 
 
 def check_match(plan: Plan, referee: Referee, match: Match, output: bytes, log: bytes) -> Checked:
-    """Has the referee verify the record and replay the call log that it has output, compares the match with the description of its game, and only
+    """Has the referee verify the record and replay the call log in the output of a match, compares the match with the description of its game, and only
     then writes the files. If the referee gives no verdict, the files get the ending `.unchecked`."""
     line, end, account = output.partition(b"\n")
     record = line + end

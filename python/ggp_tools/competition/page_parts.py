@@ -65,7 +65,7 @@ def rows_part(name: str, title: str, heads: list[str], rows: list[Item], nothing
     return Items(name, opening, tuple(rows), "</tbody></table></div>")
 
 
-# ---- the changes of a page
+# ---- the changes to a page
 
 
 def frame(parts: PageParts) -> list[tuple]:

@@ -1,7 +1,6 @@
 """The pages of a competition: a directory of plain HTML that a browser opens without a server. They follow from the files of the competition."""
 
 import functools
-import hashlib
 import heapq
 import io
 import time
@@ -82,7 +81,7 @@ def spelt(time: str | None) -> str:
 
 
 def match_row(result: Result, log: Beginning, up: str) -> Item:
-    """Returns the row of a match in a list on a page whose first page is at `up`."""
+    """Returns the row of a match in a list. `up` leads from the page of the list to the first page."""
     match = result.match
     goals = result.goals or ["none"] * len(match.players)
     cells = {
@@ -143,14 +142,17 @@ def ended_match(result: Result, record: dict, run: list[Event], is_cut: bool) ->
     return Ended(result, begin, end, above, below, appearances_of(result, record, run, end), is_cut)
 
 
+def need_modules() -> None:
+    """Ends the command at once if a module is missing."""
+    environment()
+    loaded_ratings()
+
+
 class Site:
     """The contents of a competition's pages, made from its results. `ended` must have the matches of these results. With `shows_gaps`, the first page
     lists the matches without a record."""
 
     def __init__(self, plan: Plan, shows_gaps: bool = False) -> None:
-        # If a module is missing, the command ends at once.
-        environment()
-        loaded_ratings()
         self.plan, self.shows_gaps = plan, shows_gaps
         self.ended: dict[str, Ended] = {}
         self.games = {game.name: game for game in plan.competition.games}
@@ -253,7 +255,7 @@ class Site:
 
 
 class PageOf(typing.NamedTuple):
-    """A page: its title, the results and the text that it is made from, and what makes its parts."""
+    """A page: its title, the results and the text that it is made from, and a function that makes its parts."""
 
     title: str
     results: list[Result]
@@ -288,9 +290,11 @@ class Pages:
     """The pages as files of a directory. A page is made again only if its contents have changed."""
 
     def __init__(self, plan: Plan, shows_gaps: bool = False, known: Known | None = None) -> None:
+        if not known:
+            need_modules()
         self.site, self.plan, self.folder, self.known = Site(plan, shows_gaps), plan, plan.folder.pages, known
-        # When the pages may be written again, and what each page was made from.
-        self.next, self.keys = 0.0, {}
+        # When the pages may be written again, what each page was made from, and the checksums of the pages.
+        self.next, self.keys, self.sums = 0.0, {}, {}
 
     def write_now_and_then(self, results: Callable[[], list[Result]]) -> None:
         """Writes the pages of the results that a function returns, unless it has just tried to write them."""
@@ -307,18 +311,36 @@ class Pages:
         """Writes the pages, and returns their names. Deletes pages of matches, games and players that are gone, and unfinished files."""
         for name in ("matches", "games", "players"):
             (self.folder / name).mkdir(parents=True, exist_ok=True)
-        self.write_matches(results)
-        pages = pages_of(self.site, tables_of(self.plan.competition, results, self.plan.rounds), results)
-        # The first page is written last, because its links must lead to existing pages.
-        for name, page_of in reversed(pages.items()):
-            self.put_if_changed(name, page_of)
-        names = {*pages, *(f"matches/{result.match.id}.html" for result in results)}
+        key = self.sum_of_sources(results) if self.known else ""
+        sums = self.known.get("sites", key) if self.known else None
+        if not sums or any(sum_or_none(self.folder / name) != digest for name, digest in sums.items()):
+            sums = self.write_all(results)
+            # If a file has changed meanwhile, it is not known which version was read.
+            if self.known and key == self.sum_of_sources(results):
+                self.known.put("sites", key, sums)
+        names = set(sums)
         for form in ("matches-*.html", "matches/*.html", "games/*.html", "players/*.html"):
             for file in self.folder.glob(form):
                 if str(file.relative_to(self.folder)) not in names and not file.name.startswith(UNFINISHED):
                     file.unlink(missing_ok=True)
             drop_unfinished((self.folder / form).parent)
         return names
+
+    def sum_of_sources(self, results: list[Result]) -> str:
+        """Returns a checksum of everything from which the pages follow."""
+        plan, folder = self.plan, self.plan.folder
+        files = [(sum_or_none(folder.record(result.match.id)), sum_or_none(folder.log(result.match.id))) for result in results]
+        return sum_of_parts(repr((plan.competition, plan.rules, plan.matches, plan.rounds, self.site.shows_gaps, results, files)).encode())
+
+    def write_all(self, results: list[Result]) -> dict[str, str]:
+        """Writes all pages, except those that have not changed. Returns their checksums by name."""
+        need_modules()
+        self.write_matches(results)
+        pages = pages_of(self.site, tables_of(self.plan.competition, results, self.plan.rounds, known=self.known), results)
+        # The first page is written last, because its links must lead to existing pages.
+        for name, page_of in reversed(pages.items()):
+            self.put_if_changed(name, page_of)
+        return {name: self.sums[name] for name in [*pages, *(f"matches/{result.match.id}.html" for result in results)]}
 
     def write_matches(self, results: list[Result]) -> None:
         """Writes the pages of matches, except those that this object has written, or whose checksum is known to be right."""
@@ -330,7 +352,8 @@ class Pages:
                 continue
             data = self.site.add(result, self.known)
             key = self.site.key_of_page(result, data) if self.known else ""
-            if not self.known or self.known.get("pages", key) != (sum_or_none(self.folder / name) or ""):
+            self.sums[name] = self.known.get("pages", key) if self.known else None
+            if not self.sums[name] or self.sums[name] != sum_or_none(self.folder / name):
                 left.append((name, key, (data, *self.site.match_work(result))))
                 size += len(data)
             if size > TOGETHER:
@@ -343,7 +366,7 @@ class Pages:
         for (name, key, _), data in zip(works, made_side_by_side(match_page, [work for _, _, work in works])):
             self.put(name, data)
             if self.known:
-                self.known.put("pages", key, hashlib.sha256(data).hexdigest())
+                self.known.put("pages", key, self.sums[name])
 
     def put_if_changed(self, name: str, page_of: PageOf) -> None:
         """Writes a page, unless it exists and was made from the same matches and text."""
@@ -354,6 +377,7 @@ class Pages:
 
     def put(self, name: str, data: bytes) -> None:
         write_whole(self.folder / name, data, is_lasting=False)
+        self.sums[name] = sum_of(data)
 
 
 def titled(plan: Plan, title: str) -> str:

@@ -18,7 +18,6 @@ from ggp_tools.competition.match_files import check_records, checks, record_byte
 from ggp_tools.competition.results import Result
 from ggp_tools.competition.rounds import Round, is_by_rounds, rounds_of
 from ggp_tools.competition.schedule import Match, id_of, matches_in, schedule_text
-from ggp_tools.competition.started_players import mistakes_of_programs
 from ggp_tools.descriptions.loading import NoDescription, Rules, Stopped, has_variables, load_described, load_description, rules_of, sum_of
 from ggp_tools.referee import Referee, Unchecked
 
@@ -99,7 +98,7 @@ def sums_text(sums: Mapping[str, str]) -> bytes:
 
 
 def read_sums(data: bytes) -> dict[str, str] | None:
-    """Returns the checksums in a file by file name, or None if it has a name twice, or anything but checksums."""
+    """Returns the checksums in a file by file name, or None if a name occurs twice, or if a line is not a checksum."""
     sums = {name.decode(errors="replace"): digest.decode() for digest, name in SUM_LINE.findall(data)}
     return sums if ONLY_SUMS.fullmatch(data) and len(sums) == data.count(b"\n") else None
 
@@ -187,6 +186,8 @@ def loaded_games(folder: Folder, competition: Competition, referee: Referee) -> 
 def refuse_addresses(folder: Folder, competition: Competition) -> dict[str, str]:
     """Refuses players that no match can reach or start, and two players at one address. Returns the current address of each player that has one,
     because a host name may lead to another player later."""
+    from ggp_tools.competition.started_players import mistakes_of_programs
+
     places = places_now(competition)
     if mistakes := [*mistakes_of_addresses(competition, places), *mistakes_of_programs(folder, competition)]:
         raise Refused(mistake_lines(folder.competition, mistakes))
@@ -293,8 +294,8 @@ def write_plan(folder: Folder, is_begun: bool, files: dict[Path, bytes]) -> None
 
 
 def faults_of_descriptions(plan: Plan, path_of: Callable[[Game], Path], advice: str = "") -> Iterator[str]:
-    """Yields an error for each description that the rules were not made from. `path_of` returns the file of a game's description, and the advice is
-    added if the file of the checksums is missing."""
+    """Yields an error for each description that is not the one from which the rules were made. `path_of` returns the file of a game's description. If
+    the file of the checksums is missing, the advice is added to the error."""
     path = plan.folder.description_sums
     if not path.is_file():
         yield f"{path} is missing: it has the checksums of the descriptions{advice}"
@@ -352,7 +353,8 @@ def read_plan(path: str, referee: Referee) -> Plan:
         refuse_unchanged(history, competition)
     except Misfit as why:
         raise Refused(f"{folder.path}: {why}") from None
-    if is_begun(folder):
+    # The same bytes are the same competition, and parsing many matches takes long.
+    if is_begun(folder) and not (folder.planned.exists() and read_toml_file(folder.planned) == text):
         planned_before(folder, competition)
     return Plan(folder, competition, rules, growing.matches, text, history, growing.rounds.found)
 

@@ -25,11 +25,11 @@ from ggp_tools.competition.started_players import StartedPlayers
 from ggp_tools.printable import counted
 from ggp_tools.processes import APART
 from ggp_tools.referee import Referee
-from ggp_tools.reporting import REDRAWN, Reporter
+from ggp_tools.reporting import NOT_BEGUN, REDRAWN, Reporter
 
 # The players of matches that are ended must answer ABORT within this many seconds.
 ABORT_SECONDS = 3
-NOT_BEGUN, ENDED = "not begun", "broken off"
+ENDED = "broken off"
 # How many interrupts a signal counts as: after the first one no more matches begin, and the second one ends the open matches.
 INTERRUPTS = {signal.SIGINT: 1, signal.SIGTERM: 2, signal.SIGHUP: 2}
 # An upper bound for the bytes of the names and addresses of a match's players.
@@ -44,7 +44,7 @@ class Playing:
         self.plan, self.referee, self.reporter = plan, referee, reporter
         self.slots, self.launcher = Slots(plan.competition), plan.competition.launcher
         self.at_once = self.launcher.slots if self.launcher else at_once
-        # `news` is set when matches may begin that could not before, or after an interrupt; `ends` when there is another result.
+        # `news` is set after an interrupt, and when matches may begin that could not begin before. `ends` is set when there is another result.
         self.news, self.ends = asyncio.Event(), asyncio.Event()
         self.players = StartedPlayers(plan.folder, plan.competition, referee, reporter)
         # By match id: the results, and the reasons why matches have none. By game: why no more of its matches begin.
@@ -53,13 +53,13 @@ class Playing:
         self.took: dict[str, list[float]] = {}
         self.open: dict[OpenMatch, asyncio.Task] = {}
         self.waiting: deque[Match] = deque()
-        # `searched_at` is when matches that can begin were last searched.
+        # `searched_at` is the time of the last search for matches that can begin.
         self.interrupts, self.is_full, self.searched_at = 0, False, 0.0
         self.group: asyncio.TaskGroup | None = None
         self.watch: Callable[[dict], str | None] | None = None
 
     def may_begin(self, match: Match | None = None) -> bool:
-        """Returns whether more matches may begin, or this one, whose players are free."""
+        """Returns whether more matches may begin, or whether this match may begin, whose players are free."""
         return not self.interrupts and not self.is_full and not (match and match.game in self.stopped)
 
     def begin(self) -> None:
@@ -187,8 +187,8 @@ class Playing:
         await self.abort(places, ABORT_SECONDS, going_on)
 
     async def abort(self, places: dict[str, list[str]], seconds: float | None = None, going_on: Container[str] = ()) -> None:
-        """Sends ABORT to the players of these matches, within `seconds` if that is given. If a player does not answer, or a match may go on at a
-        node, the directory of the match stays, so that the next `play` sends ABORT again."""
+        """Sends ABORT to the players of these matches, within `seconds` if that is given. If a player does not answer, or a node may still be playing
+        a match, the directory of the match stays, so that the next `play` sends ABORT again."""
         folder = self.plan.folder
         for match in places:
             leave_players(folder.open / match)
@@ -223,7 +223,7 @@ class Playing:
 def seconds_left(
     waiting: Iterable[Match], open_matches: Iterable[tuple[Match, float]], took: Mapping[str, list[float]], concurrent: Mapping[str, int], at_once: int
 ) -> float | None:
-    """Estimates how many seconds the remaining matches take, or returns None before the first one has ended. This is the greatest of three times: of
+    """Estimates how many seconds the remaining matches take, or returns None before the first one has ended. This is the longest of three times: of
     the longest open match, of the player with the most left to play, and of all matches if as many as allowed are played at the same time.
     `open_matches` has for each match how long it has been open. A game without finished matches is estimated by the mean of the others."""
     times = [seconds for game in took.values() for seconds in game]

@@ -3,34 +3,25 @@
 The strengths are those that make the results most likely. A draw counts as half a win for each player. The strengths are unique, up to a factor, if
 every subset of the players has points against the other players (Ford, "Solution of a ranking problem from binary comparisons", The American
 Mathematical Monthly 64, 1957). So the players are divided into the largest groups in which this holds. Each group is rated separately, and a player
-without a group has no rating. A rating is 400 times the decimal logarithm of the strength. Its mean in a group is 0, unless the group has anchors.
-The 95% intervals follow from the observed information: the negative second derivatives of the logarithm of the likelihood, inverted for ratings whose
-sum is 0. In tests with eight players of known strengths, 763 of 800 intervals contain the strength."""
+without a group has no rating. A rating is 400 times the decimal logarithm of the strength. The mean rating of a group is 0, unless the group has
+anchors. The 95% intervals follow from the observed information: the negative second derivatives of the logarithm of the likelihood, inverted for
+ratings whose sum is 0. In tests with eight players of known strengths, 763 of 800 intervals contain the strength."""
 
 import math
 from collections.abc import Mapping, Sequence
-from dataclasses import dataclass
 from types import MappingProxyType
 
 import numpy
+
+from ggp_tools.competition.table import Rating
 
 SCALE = 400 / math.log(10)
 NORMAL_95 = 1.959963984540054
 MOST_STEPS, CLOSE = 100, 1e-8
 
 
-@dataclass(frozen=True)
-class Rating:
-    """A player's rating, half the length of its 95% interval, and the group in which ratings can be compared. A player without a group has no rating.
-    A group has no ratings if its results limit the strengths so little that they cannot be computed with floating-point numbers."""
-
-    rating: float | None
-    half: float | None
-    group: int | None
-
-
 def groups(points: numpy.ndarray) -> list[list[int]]:
-    """Returns the largest groups of players in which a chain leads from each player to each other one, in the order of their first players. In a
+    """Returns the largest groups of players in which a chain leads from each player to every other player, in the order of their first players. In a
     chain, each player has points against the next one."""
     leads = (points > 0) | numpy.eye(len(points), dtype=bool)
     # Each step doubles the length of the chains.

@@ -7,20 +7,19 @@ from collections.abc import Iterator, Mapping
 from dataclasses import dataclass
 from typing import TYPE_CHECKING
 
-from ggp_tools.answers import Illegal, game_of
 from ggp_tools.competition.competition_file import Competition
 from ggp_tools.competition.schedule import Match
 from ggp_tools.records.lengths import MOST_TURNS, states_in, without_states
 from ggp_tools.records.match_logs import Beginning
-from ggp_tools.records.show import winner_words as winner_of_worths
+from ggp_tools.records.record import winner_words as winner_of_worths
 
 if TYPE_CHECKING:
     from ggp_tools.descriptions.loading import Rules
 
 WON, DRAWN, LOST = "won", "drawn", "lost"
-# The goal of a single opponent of a player that forfeits; several share it if the match was aborted.
+# The goal of a single opponent of a player that forfeits. Several opponents share it if the match was aborted.
 FULL_GOAL = 100
-# The greatest length of a wrong value that is quoted.
+# The maximum length of a wrong value that is quoted.
 MOST_CITED = 200
 # A game caches its results for a state, so only one thread at a time may use it.
 GAMES = threading.Lock()
@@ -71,7 +70,7 @@ class Result:
 
     def counted(self) -> tuple[int | None, ...]:
         """Returns the goals that count, by role, each None if the match has no goals. A player that forfeits gets 0. A single opponent gets the full
-        goal, because moves that no player chose have led to its own goal. Several opponents keep their goals, or share the full goal if there are
+        goal, because its own goal results from moves that no player chose. Several opponents keep their goals, or share the full goal if there are
         none."""
         lost, roles = self.forfeits(), range(len(self.retirements))
         if not lost:
@@ -180,6 +179,8 @@ def lapse_of(record: dict, data: bytes, rules: "Rules", role: int, most: int) ->
     errors, lapses = [turn[role] for turn in record["errors"]], []
     if len(errors) - errors.count("") < most:
         return None
+    from ggp_tools.answers import Illegal, game_of
+
     with GAMES:
         for turn, (error, state) in enumerate(zip(errors, states_in(data))):
             if error and len(Illegal({turn: state}, rules.roles, lambda: game_of(rules.text)).legal(role, turn)) != 1:

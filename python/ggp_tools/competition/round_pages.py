@@ -16,7 +16,7 @@ from ggp_tools.competition.table_text import count_of_planned, points_text
 Row = tuple[int, tuple[str, str], list[str]]
 # A player in a bracket, its points, and whether it advances. The name is empty as long as it is not known.
 Place = tuple[str, str, bool]
-# A bracket shows only rounds with at most this many pairs. BYE stands for a missing opponent.
+# A bracket shows only rounds with at most this many pairs. BYE is shown instead of a missing opponent.
 MOST_PAIRS, BYE = 32, "(bye)"
 
 

@@ -46,7 +46,7 @@ class Scores:
         self.met: Counter[frozenset[str]] = Counter()
 
     def count_round(self, found: Round, withdrawn: Mapping[str, str], of_meeting: Mapping[Meeting, list[Result]]) -> None:
-        """Counts the pairs and the byes. Matches that are not played or do not count, because a player has withdrawn, give points like byes."""
+        """Counts the pairs and the byes. If a match is not played or does not count because a player has withdrawn, it gives points like a bye."""
         for bye in found.byes:
             self.byes[bye] += 1
             self.points[bye] += self.meeting
@@ -140,7 +140,7 @@ def swiss_round(competition: Competition, number: int, scores: Scores, withdrawn
     order = sorted((player.name for player in competition.players if player.name not in withdrawn), key=scores.swiss_order)
     byes: tuple[str, ...] = ()
     if len(order) % 2:
-        # The lowest player in the standings with the fewest byes.
+        # Of the players with the fewest byes, the lowest in the standings.
         byes = (min(reversed(order), key=lambda player: scores.byes[player]),)
         order.remove(byes[0])
     return Round(number, tuple(paired(order, scores.met)), byes)

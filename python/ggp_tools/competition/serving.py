@@ -1,19 +1,21 @@
 """The command `serve`: live pages of a competition for browsers."""
 
 import argparse
-import asyncio
 import os
 import re
 import signal
+import typing
 from collections.abc import Callable
 
 from ggp_tools.competition.competition_file import MOST_PORT
 from ggp_tools.competition.files import Folder, Refused, allow_files
-from ggp_tools.competition.live_site import LiveSite, plan_stamp
 from ggp_tools.competition.plan import read_plan
 from ggp_tools.referee import Referee
 from ggp_tools.streams import address, say, whole
 from ggp_tools.templating import end_without
+
+if typing.TYPE_CHECKING:
+    from ggp_tools.competition.live_site import LiveSite
 
 MOST_CONNECTIONS, MOST_DELAY = 4_096, 3_600
 # At most this many files are open besides the connections.
@@ -49,7 +51,7 @@ def origin(text: str) -> str:
 
 def add_serve(command: argparse.ArgumentParser) -> None:
     """Adds the options of `serve`."""
-    command.add_argument("--port", type=whole(0, MOST_PORT), default=8_000, metavar="P", help="the port to listen on (8000); 0 takes a free one")
+    command.add_argument("--port", type=whole(0, MOST_PORT), default=8_000, metavar="P", help="the port to listen on (8000); 0 chooses a free one")
     text = "the address to listen on (127.0.0.1, which only this computer can reach); 0.0.0.0 listens on all addresses"
     command.add_argument("--bind", type=address, default="127.0.0.1", metavar="ADDRESS", help=text)
     text = "accept at most N connections at the same time (256)"
@@ -64,6 +66,10 @@ def add_serve(command: argparse.ArgumentParser) -> None:
 
 
 def run_serve(asked: argparse.Namespace, referee: Referee) -> int:
+    import asyncio
+
+    from ggp_tools.competition.live_site import LiveSite, plan_stamp
+
     if (most := allow_files()) < asked.connections + OTHER_FILES:
         needed = asked.connections + OTHER_FILES
         raise Refused(f"--connections {asked.connections} needs {needed} open files, but the system allows only {most} (ulimit -n)")
@@ -74,8 +80,10 @@ def run_serve(asked: argparse.Namespace, referee: Referee) -> int:
     return 0
 
 
-async def serve(site: LiveSite, asked: argparse.Namespace) -> None:
+async def serve(site: "LiveSite", asked: argparse.Namespace) -> None:
     """Serves the pages until the command is interrupted."""
+    import asyncio
+
     try:
         from ggp_tools.competition.http_server import Server
     except ImportError as why:

@@ -1,8 +1,6 @@
 """Calls a function for many matches, in several processes."""
 
-import concurrent.futures.process
 import itertools
-import multiprocessing
 import os
 import signal
 import threading
@@ -35,6 +33,9 @@ def made_side_by_side(function: Callable[..., object], calls: Sequence[tuple]) -
     if len(calls) < MANY or PROCESSORS == 1 or threading.active_count() > 1:
         yield from itertools.starmap(function, calls)
         return
+    import concurrent.futures.process
+    import multiprocessing
+
     with concurrent.futures.ProcessPoolExecutor(PROCESSORS, multiprocessing.get_context("fork"), begin, (function, calls)) as pool:
         try:
             yield from pool.map(called, range(len(calls)), chunksize=CHUNK)

@@ -38,8 +38,8 @@ class Slots:
         self.failed[player] = 0
 
     def count_failure(self, player: str, taken_at: float) -> bool:
-        """Returns whether to ask the player again, after it failed to answer for a match that took its slots at this time. After several failed tries
-        in a row it is not asked again. If it was asked for several matches at the same time, that counts as one try."""
+        """Records that the player did not answer for a match that took its slots at this time. Returns whether to ask it again. After several
+        failed tries in a row it is not asked again. If it was asked for several matches at the same time, that counts as one try."""
         if taken_at <= self.failed_at[player]:
             return self.failed[player] < self.tries
         self.idle_until = 0.0

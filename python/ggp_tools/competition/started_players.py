@@ -18,7 +18,7 @@ from ggp_tools.processes import ended_words
 from ggp_tools.referee import Referee
 from ggp_tools.reporting import Reporter
 
-# The address of a player that does not run. Nothing listens at this port.
+# The address of a player that is not running. Nothing listens at this port.
 HERE, NOWHERE = "127.0.0.1", "127.0.0.1:1"
 # A player must end within this many seconds.
 END_SECONDS = 15
@@ -79,7 +79,7 @@ class StartedPlayer:
         self.job, self.address, self.port, self.was_started = None, NOWHERE, 0, False
         self.lock, self.matches, self.reported_lines = asyncio.Lock(), set(), []
         self.watching: asyncio.Task | None = None
-        # Why it does not run, and is not started again.
+        # Why it is not running, and is not started again.
         self.over = ""
 
     def place(self) -> str:
@@ -158,7 +158,7 @@ class StartedPlayer:
             self.reporter.line(f"died {match}{self.name}: {words}{last}")
 
     def with_restart(self, why: str) -> str:
-        """Returns the reason why the player does not run. If the player is never restarted, this adds that to the reason."""
+        """Returns the reason why the player is not running. If the player is never restarted, this adds that to the reason."""
         if self.command.restart == NEVER:
             why = self.over = f"{why}, and it is not started again because of `restart = \"never\"`"
         return why

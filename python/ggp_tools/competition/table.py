@@ -2,23 +2,30 @@
 records, as "The table" in docs/COMPETITION.md describes it."""
 
 import itertools
-import typing
 from collections import Counter
-from collections.abc import Callable, Iterable, Sequence
+from collections.abc import Callable, Iterable, Mapping, Sequence
 from dataclasses import dataclass, field
 
 from ggp_tools.competition.competition_file import BY_POINTS, KNOCKOUT, SWISS, VOID, Competition
+from ggp_tools.competition.known import Known, sum_of_parts
 from ggp_tools.competition.results import DRAWN, LOST, WON, Result
 from ggp_tools.competition.rounds import Round, is_by_rounds, rounds_won, scores_and_seeds, swiss_rounds, withdrawn_by, withdrawn_words
 from ggp_tools.competition.schedule import Match
 from ggp_tools.templating import end_without
 
-if typing.TYPE_CHECKING:
-    from ggp_tools.competition.ratings import Rating
-
 ALL = "all games"
 # The order of a Swiss competition with a knockout at its end.
 FINAL = "final"
+
+
+@dataclass(frozen=True)
+class Rating:
+    """A player's rating, half the length of its 95% interval, and the group in which ratings can be compared. A player without a group has no rating.
+    A group has no ratings if its results limit the strengths so little that they cannot be computed with floating-point numbers."""
+
+    rating: float | None
+    half: float | None
+    group: int | None
 
 
 @dataclass
@@ -38,7 +45,7 @@ class Line:
     replaced: int = 0
     absent: int = 0
     retired: int = 0
-    rating: "Rating | None" = None
+    rating: Rating | None = None
     # Set only in the table of all games, and only if the competition is played in rounds.
     byes: int = 0
     round_points: float | None = None
@@ -86,7 +93,7 @@ class Table:
         return sorted((line for line in self.lines.values() if line.matches or line.byes), key=lambda line: line.order(self.by))
 
     def ranks(self) -> list[int]:
-        """Returns the ranks of the standings. Equal lines share a rank, and the next ranks stay free."""
+        """Returns the ranks of the standings. Equal lines share a rank, and the next ranks are skipped."""
         orders, first = [line.order(self.by) for line in self.standings()], {}
         for at, order in enumerate(orders, 1):
             first.setdefault(order, at)
@@ -138,7 +145,7 @@ def count_rounds(table: Table, competition: Competition, results: Iterable[Resul
         line.rounds_won = won.get(player, None if swiss else 0)
 
 
-def loaded_ratings() -> "Callable[..., dict[str, Rating]]":
+def loaded_ratings() -> Callable[..., dict[str, Rating]]:
     """Returns the function that rates players. Ends the command if numpy is missing."""
     try:
         from ggp_tools.competition.ratings import rated
@@ -147,9 +154,22 @@ def loaded_ratings() -> "Callable[..., dict[str, Rating]]":
     return rated
 
 
-def tables_of(competition: Competition, results: Sequence[Result], rounds: Sequence[Round] = (), is_rated: bool = True) -> list[Table]:
+def ratings_of(table: Table, anchor: Mapping[str, int], known: Known | None) -> dict[str, Rating]:
+    """Returns the ratings of the players of a table. If they are known, numpy need not be loaded, which takes long."""
+    names = [line.player for line in table.lines.values() if line.matches]
+    key = sum_of_parts(repr((names, sorted(table.points.items()), sorted(anchor.items()))).encode()) if known else ""
+    ratings = known.get("ratings", key) if known else None
+    if ratings is None:
+        ratings = loaded_ratings()(names, table.points, anchor)
+        if known:
+            known.put("ratings", key, ratings)
+    return ratings
+
+
+def tables_of(
+    competition: Competition, results: Sequence[Result], rounds: Sequence[Round] = (), is_rated: bool = True, known: Known | None = None
+) -> list[Table]:
     """Returns the tables: first that of all games, then that of each game."""
-    rated = loaded_ratings()
     names = [entrant.name for entrant in competition.players]
     kind = competition.form.kind if is_by_rounds(competition) else ""
     order, order_of_game = FINAL if competition.form.final else kind or competition.order, BY_POINTS if kind else competition.order
@@ -167,7 +187,7 @@ def tables_of(competition: Competition, results: Sequence[Result], rounds: Seque
     if kind:
         count_rounds(whole, competition, results)
     for table in [whole, *of_games] if is_rated else ():
-        for player, rating in rated([name for name in names if table.lines[name].matches], table.points, competition.anchor).items():
+        for player, rating in ratings_of(table, competition.anchor, known).items():
             table.lines[player].rating = rating
     return [whole, *of_games]
 

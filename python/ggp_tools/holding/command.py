@@ -15,7 +15,7 @@ from .following import Differs, Following, read_record
 from .game import Game
 
 USAGE = "ggp-hold-against [--seconds N] DESCRIPTION [RECORD ..]"
-ABOUT = """Checks records of matches with the published description of the game, which may have variables: whether the roles, states, moves, errors,
+ABOUT = """Checks records of matches against the published description of the game, which may have variables: whether the roles, states, moves, errors,
 end and goals follow from that description. It shares the parser with the grounder, and no code with the referee."""
 STATUS = """RECORD is a file with a record on each line, by default standard input. The command prints a line for each record. status 0: all records
 match the description. 1: a record differs; its line says where. 2: usage error, or a file cannot be read. 3: no record is known to differ, but at

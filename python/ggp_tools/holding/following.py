@@ -77,10 +77,10 @@ class Following:
         lines = [f"{when} lacks {quoted(text)}, which {cited(own[text])}" for text in sorted(own.keys() - set(texts))[:MOST_TOLD]]
         more = sorted(set(texts) - own.keys())[:MOST_TOLD]
         lines += [f"{when} has {quoted(text)}, which no sentence of the description gives there" for text in more]
-        raise Differs("\n".join(lines or [f"{when} has a term twice"]))
+        raise Differs("\n".join(lines or [f"{when} contains a term twice"]))
 
     def cited(self, relation: Relation, arguments: Sequence[Term], state: State, moves: Sequence[Term] = ()) -> str:
-        """Names the sentences that derive this in a state, as the beginning of a clause."""
+        """Returns the beginning of a clause, such as `sentence 3 gives`, with the sentences that derive this in a state."""
         numbers = self.game.sources(relation, arguments, state, self.own_order(moves))
         return " and ".join(f"{self.game.cited(number)} gives" for number in numbers[:MOST_TOLD]) or "the description gives"
 

@@ -105,8 +105,8 @@ class Sizes:
 
 
 def values_at(place: int, joined: Iterable[tuple[Rule, float, Mapping[str, float]]]) -> float:
-    """Estimates how many values an argument of a relation has, from the rules of the relation: as many as the variables in it, or one for each term
-    without variables."""
+    """Estimates how many values an argument of a relation has, from the rules of the relation: as many as the variables in the argument can have
+    together, or one for each different term without variables."""
     most, constants = 1.0, set()
     for rule, _, values in joined:
         argument = rule.arguments[place]

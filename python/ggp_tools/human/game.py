@@ -7,7 +7,7 @@ from ggp_tools.kif import spelled
 from ggp_tools.records.show import Board, Group, Named, Place, last_state, places_of, words_of
 from ggp_tools.templating import macros
 
-# Stands for the row of a move that names only a column.
+# The row of a move that names only a column.
 ANY_ROW = 0
 
 
@@ -18,7 +18,8 @@ class Shown:
         self.game, self.states, self.named = game, [texts_of(game.initial)], Named(game.sentences, is_hex)
         self.roles = list(map(spelled, game.roles))
         self.state: State = game.initial
-        # The moves that were legal so far, by relation; the last move of each role that had a choice; and the roles that have a choice now.
+        # `known` has the moves that were legal so far, by relation. `made` has the last move of each role that had a choice. `choosing` has the roles
+        # that have a choice now.
         self.known: dict[Group, set[str]] = {}
         self.made: dict[object, str] = {}
         self.choosing = self.roles_with_choice()

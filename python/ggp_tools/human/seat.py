@@ -96,7 +96,7 @@ class Seat:
         self.asked = 0
         # When the next message of the match must arrive.
         self.expected = 0.0
-        # There is one as soon as `match` is set.
+        # Set as soon as `match` is set.
         self.shown: Shown | None = None
         self.view: dict = {"phase": "waiting", "note": NO_MATCH}
         self.role: object = None
@@ -156,7 +156,7 @@ class Seat:
         return bool(self.pages)
 
     def next_message(self, seconds: int = 0) -> int:
-        """Records that a message of a match with a clock of this many seconds has come. Returns its number. Any pending move is cancelled."""
+        """Records that a message of a match has arrived, with a clock of this many seconds. Returns its number. Any pending move is cancelled."""
         with self.changed:
             self.asked += 1
             self.expected = time.monotonic() + seconds + PATIENCE
@@ -300,7 +300,7 @@ class Seat:
             self.changed.notify_all()
 
     def next_view(self, version: int, seconds: float) -> tuple[int, dict]:
-        """Waits until the view has another version, or for some seconds. Returns the version, and the view with the person's time left."""
+        """Waits until the view has another version, or for at most this many seconds. Returns the version, and the view with the person's time left."""
         with self.changed:
             self.changed.wait_for(lambda: self.version != version, seconds)
             left = max(0.0, self.deadline - time.monotonic()) if self.view["phase"] in ("moving", "sent") else None

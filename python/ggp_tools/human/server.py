@@ -17,18 +17,19 @@ from http import HTTPStatus
 
 from ggp_tools.human.seat import MOST_MESSAGE, Seat, Unread
 from ggp_tools.templating import source
-from ggp_tools.visitors import Visitors, client_of
+from ggp_tools.visitors import THIS_COMPUTER, Visitors, client_of
 
 # START has the whole rules, with a space for each atom and each list.
 MOST_BYTES, MOST_MOVE = 33_554_432, 65_536
 # After this many bytes no more of a head is read, because parsing a long one may take minutes.
 LONGEST_HEAD = 16_384
-# After this many seconds without a change the page gets a line; this also detects that the page was closed.
+# After this many seconds without a change, the page is sent a line. This also detects that the page was closed.
 ALIVE = 1.0
 # A request must arrive within this many seconds, and one more for each MiB of its body. The client must accept the answer within PATIENCE seconds.
 REQUEST_SECONDS, PATIENCE = 5, 30
-# The maximum number of connections.
-MOST_CONNECTIONS = 128
+# The maximum number of connections. Of those that begin within PERIOD seconds, at most as many may be of strangers: of clients that are neither the
+# referee nor this computer.
+MOST_CONNECTIONS, PERIOD = 128, 1.0
 # The maximum number of long bodies that are read at the same time, so that few of them are in memory.
 MOST_LONG = 8
 # The files of the page, by their paths below the token. The page may load and run only these.
@@ -71,10 +72,10 @@ class Request(io.RawIOBase):
         return self.received / (time.monotonic() - self.began + 0.001)
 
     def is_whole(self) -> None:
-        """Records that the request has arrived: the connection no longer gives way, and the answer gets a deadline of its own."""
+        """Records that the request has arrived: the connection no longer gives way, and the answer gets a separate deadline."""
         self.is_idle = False
         self.connection.settimeout(PATIENCE)
-        # The kernel ends a connection whose client is gone without a word, for example because its computer is offline.
+        # The kernel ends a connection whose client has disappeared without closing it, for example because its computer is offline.
         self.connection.setsockopt(socket.IPPROTO_TCP, socket.TCP_USER_TIMEOUT, PATIENCE * 1_000)
 
     def end(self) -> None:
@@ -205,21 +206,34 @@ class Server(ThreadingHTTPServer):
     """Serves a person's seat."""
 
     daemon_threads = True
-    request_queue_size = 256
+    request_queue_size = socket.SOMAXCONN
 
     def __init__(self, address: tuple[str, int], seat: Seat) -> None:
         super().__init__(address, Handler)
         self.seat, self.page = seat, f"/{secrets.token_urlsafe(16)}/"
         self.visitors, self.requests, self.readers = Visitors(MOST_CONNECTIONS), {}, set()
+        # When the period ends, and the clients of the strangers' connections that began in it.
+        self.ends, self.strangers = 0.0, []
 
     def verify_request(self, request: socket.socket, client_address: tuple[str, int]) -> bool:
-        """Returns whether a connection is served. If there are too many, the oldest one without a whole request gives way."""
+        """Returns whether a connection gets a thread. A thread costs much more than a refusal. If there are too many connections, the oldest one without
+        a complete request gives way, but not to a stranger that has used up its share."""
         client = client_of(client_address[0])
-        if not self.visitors.has_room_for(client):
+        is_stranger = client != THIS_COMPUTER and client_address[0] not in self.seat.referees
+        if is_stranger and not self.is_in_share(client) or not self.visitors.has_room_for(client):
             return False
         self.requests[request] = Request(request, client, self.visitors)
         self.visitors.come(self.requests[request])
         return True
+
+    def is_in_share(self, client: str) -> bool:
+        """Returns whether a stranger may have one more connection. It has a share of the open connections, and a share of those that begin in a period."""
+        if time.monotonic() >= self.ends:
+            self.ends, self.strangers = time.monotonic() + PERIOD, []
+        count = max(self.visitors.counts[client], self.strangers.count(client))
+        is_in_share = len(self.strangers) < MOST_CONNECTIONS and count < self.visitors.most_of(client)
+        self.strangers += [client] * is_in_share
+        return is_in_share
 
     def shutdown_request(self, request: socket.socket) -> None:
         if asked := self.requests.pop(request, None):

@@ -15,8 +15,9 @@ LARGE = {**MOST, "sentences": 262144, "atomic sentences": 262144, "bytes": 16777
 LARGE_NOTE = "large = true: this exceeds the usual limits of ggp_manager, which accepts it with --large"
 # The longest argument of a command on Linux, without the final NUL byte.
 MOST_IN_A_WORD = 131071
-# A sentence of the output, with the number of the sentence that it comes from; and the name, the value and the limit of a quantity.
+# A sentence of the output, with the number of the sentence that it comes from.
 Numbered = tuple[int, Expression]
+# The name, the value and the limit of a quantity.
 Figure = tuple[str, int, int]
 GOAL = re.compile(r"0|[1-9][0-9]?|100")
 PAST_GOAL = re.compile(r"[1-9][0-9]{2,}")

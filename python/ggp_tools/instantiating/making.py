@@ -17,7 +17,7 @@ WHERE_NEEDED, ALWAYS, NEVER = "where needed", "always", "never"
 FOLDABLE = ("sentences", "atomic sentences", "bytes")
 # A longer game is factored if possible, even if it fits the limits of --large, because each process that loads a game needs memory for all of it.
 LONG = {"sentences": 65536, "bytes": 4194304}
-# A quantity is far past its limit if it is more than this many times the limit.
+# A quantity is far above its limit if it is more than this many times the limit.
 FAR = 4
 # The maximum work of factoring a game to within the usual limits, about twenty seconds of processor time. It is counted in steps, so that the
 # result is the same on every machine.
@@ -38,7 +38,7 @@ class Form(NamedTuple):
 
 def forms(rules: list[Rule], is_whole: bool, is_split: bool) -> list[Form]:
     """Returns the unchanged description if it has few instances, then the one with split rules, then the unchanged one with any number of instances.
-    If only one of these is wanted, returns only that one."""
+    If only one of these is requested, returns only that one."""
     whole, parts = Form(rules, gringo.MOST_INSTANCES), split(rules)
     if is_whole or len(parts) == len(rules):
         return [whole]

@@ -101,7 +101,7 @@ def steps_of(circle: list[Expression], rules_for: RulesFor) -> dict[Expression, 
 
 
 def cliques(circle: list[Expression], steps: dict[Expression, set[Expression]]) -> list[list[Expression]]:
-    """Splits the sentences into sets in which each sentence can be derived from each other one."""
+    """Splits the sentences into sets in which each sentence can be derived from every other one."""
     left, cliques_found = dict.fromkeys(circle), []
     while left:
         clique = [next(iter(left))]

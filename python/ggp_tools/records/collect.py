@@ -1,4 +1,4 @@
-"""Reads files with records of several games, finds the game of each record, checks the record, and writes them all as tables, pages, facts, matches
+"""Reads files with records of several games, finds the game of each record, checks it, and writes all records as tables, pages, facts, matches
 of ggp-base, or text like PGN.
 
     ggp-records --rules RULES check [--explain] PILE ..
@@ -93,7 +93,7 @@ def print_check(lines: Iterable[Judged], explains: bool) -> None:
 
 
 def lawful_ones(lines: Iterable[Judged]) -> Iterator[tuple[int, Judged]]:
-    """Yields the lawful records with their numbers, and reports each other line."""
+    """Yields the lawful records with their numbers, and reports all other lines."""
     for number, judged in enumerate(lines, 1):
         if judged.is_lawful:
             yield number, judged

@@ -27,7 +27,7 @@ ABOUT = (
     "no code with the referee computes what was expected. If the interpreter finds a different error first, this is reported. With --lines each line "
     "is a record. Those that are not lawful are printed, with the number of the line and an explanation. Lines of call logs are skipped."
 )
-STATUS = "status 0: all records are lawful. 1: a record is not. 2: usage error. 3: there is no verdict."
+STATUS = "status 0: all records are lawful. 1: at least one is not. 2: usage error. 3: there is no verdict."
 MOST_LISTED, MOST_OF_TEXT = 20, 400
 
 
@@ -133,7 +133,7 @@ class Replay(Match):
             why = f"the error says that {short(error[3:])} is not legal, but it is"
             return (f"notfirst {indices}", f"{who}: {why}.", "expected: no error", f"found: the error {short(error)}")
         if (error == "RT") != self.is_retired(role):
-            reason = f"it had errors in up to {counted(self.most[role], 'turn')} in a row, and the strikes are {self.strikes}"
+            reason = f"it had errors in up to {counted(self.most[role], 'turn')} in a row, and `strikes` is {self.strikes}"
             kind, wanted = ("not retired", "another error, or none") if error == "RT" else ("retired", "the error RT")
             return (f"retired {indices}", f"{who}: the role is {kind}: {reason}.", f"expected: {wanted}", f"found: {short(error) or 'no error'}")
         return None
@@ -185,7 +185,7 @@ def explanation(word: str, game: Game, data: bytes) -> list[str]:
         fault = ("that the record has a different shape",)
     if fault and fault[0] == word:
         return fault[1:]
-    return [f"The interpreter finds {': '.join(fault[:2]) if fault else 'no fault'}", "One of the two is wrong: please report this, with the record and the rules."]
+    return [f"The interpreter finds {': '.join(fault[:2]) if fault else 'no error'}", "One of the two is wrong: please report this, with the record and the rules."]
 
 
 def judged(program: str, words: list[str], data: bytes, count: int = 1) -> list[str | None]:

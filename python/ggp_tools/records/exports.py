@@ -16,8 +16,8 @@ from ggp_tools.records.show import page_of, winner_words
 from ggp_tools.records.tables import made_whole
 from ggp_tools.templating import page
 
-# The characters of an id that are replaced in the name of a file.
-OTHERS = re.compile(r"[^A-Za-z0-9._-]")
+# The characters that are replaced in the name of a file, and in the name of a header.
+OTHERS, NOT_IN_HEADERS = re.compile(r"[^A-Za-z0-9._-]"), re.compile("[^A-Za-z0-9_]")
 LONGEST_ID = 64
 
 
@@ -108,12 +108,13 @@ def write_matches(folder: pathlib.Path, lawful: Iterable[tuple[int, Judged]], lo
 def text_of(judged: Judged, logged: list[Beginning]) -> str:
     """Returns a lawful record as text. Roles and moves are in lower case and have no `;`, so they cannot be confused with headers and errors."""
     record, (began, _) = judged.line.record, times_of(logged, 0)
-    headers = {"Match": record["matchId"], "Game": judged.game.name, **dict(zip(record["roles"], record["players"]))}
-    headers |= {"Result": "-".join(map(str, record["goalValues"])) or "*", "Phase": record["phase"]}
-    headers |= {"Cause": record["cause"]} if record["cause"] else {}
-    headers |= {"Clocks": f"{record['startClock']} {record['playClock']}", "Record": record_sum(judged.line.data)}
-    headers |= {"Date": moment_at(began / 1_000)} if began else {}
-    rows = [f"[{name} {json.dumps(value)}]" for name, value in headers.items()]
+    headers = [("Match", record["matchId"]), ("Game", judged.game.name)]
+    headers += [(NOT_IN_HEADERS.sub("_", role), player) for role, player in zip(record["roles"], record["players"])]
+    headers += [("Result", "-".join(map(str, record["goalValues"])) or "*"), ("Phase", record["phase"])]
+    headers += [("Cause", record["cause"])] if record["cause"] else []
+    headers += [("Clocks", f"{record['startClock']} {record['playClock']}"), ("Record", record_sum(judged.line.data))]
+    headers += [("Date", moment_at(began / 1_000))] if began else []
+    rows = [f"[{name} {json.dumps(value)}]" for name, value in headers]
     for number, (moves, errors) in enumerate(zip(record["moves"], record["errors"]), 1):
         notes = "; ".join(f"{role}: {error}" for role, error in zip(record["roles"], errors) if error)
         rows.append(f"{number}. {' '.join(moves)}{f' ; {notes}' if notes else ''}")

@@ -5,14 +5,15 @@ same as in `matches.jsonl` of a competition."""
 import errno
 import json
 import pathlib
-from collections.abc import Iterable, Iterator
+from collections.abc import Iterable
 
 from ggp_tools.competition.known import sum_of_file
 from ggp_tools.competition.plan import read_sums
 from ggp_tools.match_log import BROKEN, KINDS
 from ggp_tools.records.collection import Judged
-from ggp_tools.records.match_logs import Beginning, MatchLogs, message_sum
-from ggp_tools.records.record import ABORTED, COMPLETED, record_sum
+from ggp_tools.records.exchanges import Exchanges, broken_answers
+from ggp_tools.records.match_logs import Beginning, MatchLogs
+from ggp_tools.records.record import record_sum
 from ggp_tools.records.tables import made_whole
 from ggp_tools.referee import VERSION_LINE
 
@@ -28,7 +29,7 @@ def description_sums(rules: str, descriptions: str | None) -> dict[str, str]:
     path = pathlib.Path(rules, DESCRIPTIONS)
     sums = read_sums(path.read_bytes()) if path.is_file() else {}
     if sums is None:
-        raise OSError(errno.EINVAL, "it has a file twice, or a line that is not a checksum", str(path))
+        raise OSError(errno.EINVAL, "it names a file twice, or has a line that is not a checksum", str(path))
     return {name.removesuffix(".kif"): digest for name, digest in sums.items()}
 
 
@@ -37,51 +38,6 @@ def version_beside(rules: str) -> str | None:
     path = pathlib.Path(rules).absolute().parent / VERSION
     data = path.read_bytes() if path.is_file() else b""
     return data.decode("ascii").strip() if VERSION_LINE.fullmatch(data) else None
-
-
-def broken_answers(exchanges: "Exchanges", whys: dict[tuple[int, int], str | None]) -> list[dict[str, object]]:
-    """Returns the broken answers, each with its reason, which is None if no log has it."""
-    return [{"role": role, "message": number, "why": whys.get((role, number)) or None} for role, number in exchanges.broken()]
-
-
-class Exchanges:
-    """The messages of a match, as far as they follow from its record: their texts, and which answers were broken."""
-
-    def __init__(self, record: dict) -> None:
-        self.record, self.players = record, record["players"]
-        joints = ["NIL", *(f"({' '.join(moves)})" for moves in record["moves"])]
-        self.plays = [self.text("PLAY", joint) for joint in joints]
-        completed, aborted = {"STOP": self.text("STOP", joints[-1])}, {"ABORT": self.text("ABORT")}
-        # The last message of the match by its kind. It is empty if the match is not over.
-        self.ends = completed if record["phase"] in COMPLETED else aborted if record["phase"] in ABORTED else {}
-        errors = [[turn[role] for turn in record["errors"]] for role in range(len(self.players))]
-        # The number of turns in which each role was asked for a move. A retired role stays retired.
-        self.asked = [turns.index("RT") if "RT" in turns else len(turns) for turns in errors]
-
-    def text(self, kind: str, joint: str = "") -> str:
-        return f"({kind} {self.record['matchId']}{' ' * bool(joint)}{joint})"
-
-    def last(self, role: int) -> int:
-        """Returns the number of the last message to a role, after START, each PLAY, and STOP or ABORT."""
-        return 1 + self.asked[role] + len(self.ends)
-
-    def has(self, role: int, number: int, kind: str, known: int) -> bool:
-        """Returns whether the match has this message, judging by the message's hash."""
-        if role >= len(self.players) or not 1 <= number <= self.last(role):
-            return False
-        if (kind == "START") != (number == 1) or (kind in self.ends) != (number == self.asked[role] + 2):
-            return False
-        text = self.ends[kind] if kind in self.ends else self.plays[number - 2]
-        return known == message_sum(self.players[role], kind, text)
-
-    def broken(self) -> Iterator[tuple[int, int | None]]:
-        """Yields the role and the number of each message whose answer was broken. The number of an ABORT that was asked for is not known, because a
-        PLAY of the open turn may have been sent before it."""
-        for role in range(len(self.players)):
-            marks = [self.record["startMarks"][role], *(turn[role] for turn in self.record["errors"][: self.asked[role]])]
-            yield from ((role, number) for number, mark in enumerate(marks, 1) if mark == BROKEN)
-            if self.record["endMarks"][role] == BROKEN:
-                yield role, None if self.record["cause"] == "asked" else self.last(role)
 
 
 def messages_of(exchanges: Exchanges, logged: Beginning) -> list[list[list | None]] | str:

@@ -135,7 +135,7 @@ def is_error(value: object) -> bool:
     return value.startswith("IL ") and len(value) <= len("IL ") + LONGEST_EXPRESSION and is_expression(value.removeprefix("IL "))
 
 
-MARKS, CLOCK = 'for each role a mark: null, "", "TO" or "CE"', "a whole number of seconds, 1 to 86,400"
+MARKS, CLOCK = 'for each role a mark: null, "", "TO" or "CE"', "a whole number of seconds from 1 to 86,400"
 NAME = "1 to 64 letters, digits, `-`, `_` and `.`"
 # The keys of a record: a check of the type, as far as a page needs it, and a description of the value.
 KEYS: dict[str, tuple[Kind, str]] = {
@@ -145,7 +145,7 @@ KEYS: dict[str, tuple[Kind, str]] = {
         list_of(list_of(is_text)), 'for each turn of moves a list with one text for each role: "", "TO", "CE", "RT", "IL ?", or "IL " and an '
         "expression in canonical text and lower case, of at most 8,192 bytes",
     ),
-    "goalValues": (list_of(is_whole), "an empty list, or for each role a whole number of 0 to 100"),
+    "goalValues": (list_of(is_whole), "an empty list, or for each role a whole number from 0 to 100"),
     "matchId": (is_text, NAME),
     "moves": (list_of(list_of(is_text)), "for each turn, at most 10,000 of them, a list with one text for each role"),
     "phase": (PHASES.__contains__, f"one of the texts {', '.join(PHASES)}"),
@@ -155,7 +155,7 @@ KEYS: dict[str, tuple[Kind, str]] = {
     "startClock": (is_whole, CLOCK),
     "startMarks": (list_of(is_text_or_null), MARKS),
     "states": (list_of(list_of(is_text)), "a list of states, one more than turns in moves, each a list of texts"),
-    "strikes": (is_whole, "a whole number of 0 to 255, because the record has version 2"),
+    "strikes": (is_whole, "a whole number from 0 to 255, because the record has version 2"),
     "version": (lambda value: is_whole(value) and value in (1, 2), "1 or 2"),
 }
 # For lists by turn, the first wrong member is reported.
@@ -240,3 +240,10 @@ def record_sum(data: bytes) -> str:
 def numbered_lines(lines: BinaryIO) -> Iterator[tuple[int, bytes]]:
     """Yields the lines of a file with their numbers. A line that is too long is cut, to just above the limit."""
     return ((number, data.rstrip(b"\r\n")) for number, (data, _) in enumerate(limited_lines(lines, LONGEST_RECORD + 3), 1))
+
+
+def winner_words(players: Sequence[str], worths: Sequence[int]) -> str:
+    """Returns who won a match, or who drew, from the result of each player. The text is empty for one player, and if no result is 0 or more."""
+    best = max(worths, default=-1)
+    names = [player for player, worth in zip(players, worths) if worth == best >= 0]
+    return f"{' and '.join(names)} {'won' if len(names) == 1 else 'drew'}." if names and len(players) > 1 else ""

@@ -14,7 +14,7 @@ from ggp_tools.holding.game import Game
 from ggp_tools.kif import Expression, expressions, grouped, head_of, is_variable, spelled
 from ggp_tools.printable import MOST_SHOWN, visible
 from ggp_tools.records.marks import PIECES, Mark, marks_of
-from ggp_tools.records.record import ACCOUNT_LINE, BEGIN, CAUSE, LONGEST_RECORD, TOO_LONG, NoRecord, numbered_lines, read_record
+from ggp_tools.records.record import ACCOUNT_LINE, BEGIN, CAUSE, LONGEST_RECORD, TOO_LONG, NoRecord, numbered_lines, read_record, winner_words
 from ggp_tools.streams import Ended, opened, put_bytes, status_of
 from ggp_tools.templating import joined, macros, page
 
@@ -86,7 +86,7 @@ def record_of(file: BinaryIO) -> bytes:
     if ACCOUNT_LINE.fullmatch(second.rstrip(b"\r\n")):
         for number, line in numbered_lines(file):
             if not ACCOUNT_LINE.fullmatch(line):
-                raise NoRecord(f"line {number + 2} is not a line of its call log. {ONE_RECORD}")
+                raise NoRecord(f"line {number + 2} is not a line of the record's call log. {ONE_RECORD}")
         data = first
     elif first.startswith(BEGIN) and second.startswith(BEGIN):
         raise NoRecord(f"line 2 is another record. {ONE_RECORD}")
@@ -113,7 +113,8 @@ def group_of(words: Sequence[str]) -> Group:
 
 
 def axis_of(values: Iterable[str]) -> list[str] | None:
-    """Returns the places of an axis in order: numbers after at most one letter, or single letters. Returns None if the values are not such places."""
+    """Returns the places of an axis in order: numbers, each with at most one letter before it, or single letters. Returns None if the values are not
+    such places."""
     if all(re.fullmatch("[a-z]", value) for value in values):
         axis = [chr(number) for number in range(ord(min(values)), ord(max(values)) + 1)]
     else:
@@ -160,7 +161,7 @@ class Board:
         return set(itertools.product(range(1, len(self.across) + 1), range(1, len(self.up) + 1)))
 
     def size(self, is_played: bool) -> int:
-        """Returns the greatest number of places, and names of columns and rows, that are drawn."""
+        """Returns the maximum number of places, and names of columns and rows, that are drawn."""
         return len(self.across) + len(self.up) + (len(self.across) * len(self.up) if is_played else len(self.places))
 
     def place(self, words: tuple[str, ...]) -> tuple[int, int, str]:
@@ -394,13 +395,6 @@ def mover_of(state: list[str], roles: Sequence[str]) -> int | None:
     """Returns the role whose turn it is, or None if the state does not name exactly one. In such states the other roles have one legal move."""
     named = {role for role, _ in named_roles(state, roles)}
     return roles.index(named.pop()) if len(named) == 1 else None
-
-
-def winner_words(players: Sequence[str], worths: Sequence[int]) -> str:
-    """Returns who won a match, or who drew, from the result of each player. The text is empty for one player, and if no result is 0 or more."""
-    best = max(worths, default=-1)
-    names = [player for player, worth in zip(players, worths) if worth == best >= 0]
-    return f"{' and '.join(names)} {'won' if len(names) == 1 else 'drew'}." if names and len(players) > 1 else ""
 
 
 def turn_of_page(moves: Sequence[str], errors: Sequence[str], mover: int | None, why: Callable[[int, str], str]) -> list[dict[str, object]]:

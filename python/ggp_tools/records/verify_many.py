@@ -9,7 +9,7 @@ three differences: verdicts are written piece by piece, reads are not counted, a
 reads it.
 
 N is at most 1,024. At most N + 2 pieces and their verdicts are in memory. Errors of this command begin with `ggp-verify-records: `. As with `--why`,
-exit status 1 means that a record is not lawful, and every other error has 2. If a signal kills a process, the status is 128 plus the number of the
+exit status 1 means that a record is not lawful, and every other error gives 2. If a signal kills a process, the status is 128 plus the number of the
 signal. With `--json` among OPTIONS the verdicts are JSON.
 
 The command needs only Python 3.11 or later.
@@ -68,7 +68,7 @@ def write_whole(stream: int, text: bytes) -> None:
 
 
 def say(text: bytes) -> None:
-    """Writes to standard error, and ignores errors of that."""
+    """Writes to standard error, and ignores errors in doing so."""
     with contextlib.suppress(OSError):
         write_whole(2, text)
 
@@ -140,8 +140,8 @@ def feed(words: list[str], jobs: int, size: int, checks: queue.Queue) -> None:
 
 
 def check_all(words: list[str], jobs: int, size: int) -> None:
-    """Checks standard input with `jobs` processes at a time, and writes the verdicts in order until there is an error. In memory are the pieces of
-    the queue, one that is being read, and one that is being written."""
+    """Checks standard input with `jobs` processes at a time, and writes the verdicts in order until there is an error. Only the pieces of the
+    queue, one that is being read, and one that is being written are in memory."""
     checks, skipped, unlawful = queue.Queue(jobs), 0, 0
     try:
         threading.Thread(target=feed, args=(words, jobs, size, checks), daemon=True).start()
@@ -163,7 +163,7 @@ def check_all(words: list[str], jobs: int, size: int) -> None:
 
 
 def hold_closed_streams() -> None:
-    """Opens /dev/null for each closed standard stream, in the mode that makes it fail, so that no other file gets its number."""
+    """Opens /dev/null for each closed standard stream, in a mode in which the stream still fails, so that no other file gets its number."""
     for stream, mode in enumerate((os.O_WRONLY, os.O_RDONLY, os.O_RDONLY)):
         try:
             os.fstat(stream)

@@ -1,10 +1,15 @@
 """Network namespaces that act as separate computers, and matches of one player in them. They need root and `ip`."""
 import contextlib
 import ctypes
+import itertools
 import json
+import os
+import pathlib
+import signal
 import socket
 import subprocess
 import threading
+import time
 from collections.abc import Callable, Iterator
 from typing import NamedTuple
 
@@ -13,6 +18,8 @@ from driving.asking import body_of
 # A game of two turns, in which the only role has one move.
 RULES = "(role ann) (init a) (legal ann go) (<= (next b) (true a)) (<= (next c) (true b)) (<= terminal (true c)) (goal ann 100)"
 PATIENCE = 300
+# A firewall's rule for a port concerns IPv4 and IPv6, so no two players have the same port.
+PORTS = itertools.count(20001)
 
 
 def inside(namespace: str, call: str, is_needed: bool = True) -> None:
@@ -46,15 +53,39 @@ def namespaces(*names: str) -> Iterator[None]:
             subprocess.run(["ip", "netns", "del", name], check=False)
 
 
+def has_stopped(pid: int) -> bool:
+    """Checks whether all threads of a process are stopped."""
+    return all(stat.read_text().rpartition(")")[2].split()[0] == "T" for stat in pathlib.Path(f"/proc/{pid}/task").glob("*/stat"))
+
+
+@contextlib.contextmanager
+def stopped(namespace: str, seconds: float) -> Iterator[None]:
+    """Stops the programs in a namespace. They continue this many seconds after the block."""
+    inode = os.stat(f"/run/netns/{namespace}").st_ino
+    pids = []
+    for entry in pathlib.Path("/proc").glob("[0-9]*"):
+        with contextlib.suppress(OSError):
+            if (entry / "ns/net").stat().st_ino == inode:
+                pids.append(int(entry.name))
+    for pid in pids:
+        os.kill(pid, signal.SIGSTOP)
+    # On a busy computer the threads of a program do not stop at once.
+    while not all(has_stopped(pid) for pid in pids):
+        time.sleep(0.001)
+    yield
+    time.sleep(seconds)
+    for pid in pids:
+        os.kill(pid, signal.SIGCONT)
+
+
 class Ann(threading.Thread):
     """A player in a namespace. It calls a function with its port before it answers the first PLAY."""
 
     def __init__(self, namespace: str, host: str, before: Callable[[int], object] = lambda _: None) -> None:
         super().__init__(daemon=True)
-        self.before = before
+        self.before, self.port = before, next(PORTS)
         with entered(namespace):
-            self.listener = socket.create_server((host, 0), family=socket.AF_INET6 if ":" in host else socket.AF_INET, backlog=64)
-        self.port = self.listener.getsockname()[1]
+            self.listener = socket.create_server((host, self.port), family=socket.AF_INET6 if ":" in host else socket.AF_INET, backlog=64)
         self.start()
 
     def run(self) -> None:
@@ -74,16 +105,16 @@ class Ended(NamedTuple):
     errors: str
 
     def marks(self) -> list[str]:
-        """Returns the errors of the answers to START, each PLAY and STOP, none without a record."""
+        """Returns the errors of the answers to START, each PLAY and STOP, or none if there is no record."""
         if not self.output:
             return []
         record = json.loads(self.output)
         return [*record["startMarks"], *(turn[0] for turn in record["errors"]), *record["endMarks"]]
 
 
-def played(namespace: str, program: str, address: str, seconds: int) -> Ended:
+def played(namespace: str, program: str, address: str, seconds: int, rules: str = RULES) -> Ended:
     """Plays a match in a namespace against the player at this address, with START and PLAY clocks of this many seconds."""
-    words = ["run", "--why", "--rules", RULES, "--id", "m", "--start", f"{seconds}", "--play", f"{seconds}", address]
+    words = ["run", "--why", "--rules", rules, "--id", "m", "--start", f"{seconds}", "--play", f"{seconds}", address]
     ran = subprocess.run(["ip", "netns", "exec", namespace, program, *words], capture_output=True, text=True, timeout=PATIENCE)
     return Ended(ran.returncode, ran.stdout, ran.stderr)
 

@@ -23,7 +23,7 @@ class Seat:
 
 
 class Player:
-    """A player that thinks for some seconds before each answer. It plays any number of matches at a time. A strict player plays only one, and answers
+    """A player that thinks for a given time before each answer. It plays any number of matches at a time. A strict player plays only one, and answers
     START with `busy` until this match is over. Its answers may be padded with this many spaces."""
 
     def __init__(self, name, heap, think=0.0, is_strict=False, padding=0):

@@ -47,7 +47,7 @@ def all_said(child):
 
 
 def ended(child):
-    """Returns the exit status of a program, and its messages if they go to a pipe. A program that does not end is killed."""
+    """Returns the exit status of a program, and the output on standard error if that goes to a pipe. A program that does not end is killed."""
     told = all_said(child)[1]
     return child.returncode, told
 
@@ -92,7 +92,7 @@ def faults_of_records(program, game, text, ids, players):
     try:
         records = records_in(whole_lines(text)[0])
     except ValueError as fault:
-        yield f"a line is no record: {fault}"
+        yield f"a line is not a record: {fault}"
         return
     found = [record["matchId"] for record in records]
     if sorted(found) != sorted(ids):

@@ -16,6 +16,7 @@ from jobs import Counts, Job, Jobs, counts_in
         ("2 failed, 1259 passed, 3 skipped, 1 error in 300.12s (0:05:00)", False, Counts(1259, 3, 3)),
         ("48 passed, 0 failed", False, Counts(48, 1)),
         ("each player has answered", True, Counts(1)),
+        ("589 errors were caused: each has the expected message", True, Counts(1)),
         ("each player has answered", False, Counts(0, 1)),
         ("", False, Counts(0, 1)),
     ],

@@ -1,0 +1,4 @@
+mod AnsweredRows
+mod Sent
+mod ServedLines
+mod Written

@@ -1,0 +1,4 @@
+use Rattle.desk_service.proofs.service.serve_desk.Given as goal
+
+abbrev pub ghosts-serve_named : goal.ghosts-serve_named
+ghosts-serve_named g a = record { name = a.blank.name; parts = a.blank.parts }
