@@ -3,8 +3,9 @@
 
     player.py PORT [SEED]
 
-It listens on 127.0.0.1, answers INFO, START, PLAY, STOP and ABORT, and plays one match at a time: that of the last START. The same SEED, a whole
-number, chooses the same moves. The player needs only Python's standard library.
+It listens on 127.0.0.1, answers INFO, START, PLAY, STOP and ABORT, and plays one match at a time: that of the last START. If messages for several
+names come to its port, it plays one match for each name. The same SEED, a whole number, chooses the same moves. The player needs only Python's
+standard library.
 """
 
 import argparse
@@ -126,16 +127,17 @@ class Game:
 
 @dataclass
 class Seat:
-    """A role that the player plays in its match."""
+    """A role that the player plays in a match."""
 
+    match_id: str
     role: object
     game: Game
     state: set
 
 
 class Player:
-    """The state of the player's match, and its answers. The header `Receiver` of a message names the role's player, because several roles of a match
-    may have the same address."""
+    """The player's match for each value of the header `Receiver`, and its answers. Two roles of a match, or two players of different matches, may have
+    the same address under different names. A message for one name changes nothing for the others."""
 
     def __init__(self, choose, game=Game):
         self.choose, self.make_game = choose, game
@@ -144,21 +146,21 @@ class Player:
     def answer(self, message, receiver=""):
         match message:
             case "info" | ("info",):
-                return "busy" if self.seats else "available"
+                return "busy" if receiver in self.seats else "available"
             case ("start", match_id, role, rules, _, _):
                 game = self.make_game(rules)
-                seat = Seat(role, game, game.initial())
-                # This ends any other match, but only after the rules were read successfully.
-                self.seats = {key: other for key, other in self.seats.items() if key[0] == match_id} | {(match_id, receiver): seat}
+                # This ends the receiver's earlier match, but only after the rules were read successfully.
+                self.seats[receiver] = Seat(match_id, role, game, game.initial())
                 return "ready"
-            case ("play", match_id, moves) if seat := self.seats.get((match_id, receiver)):
+            case ("play", match_id, moves) if (seat := self.seats.get(receiver)) and seat.match_id == match_id:
                 if moves not in ("nil", ()):
                     seat.state = seat.game.next(seat.state, moves)
                 moves = [show(move) for move in seat.game.legal(seat.state, seat.role)]
                 return self.choose([move for move in moves if len(move) <= MOST_ANSWER] or moves)
             case ("stop", match_id, _) | ("abort", match_id):
                 # The player may not know this match.
-                self.seats.pop((match_id, receiver), None)
+                if (seat := self.seats.get(receiver)) and seat.match_id == match_id:
+                    del self.seats[receiver]
                 return "done"
         return "busy"
 
