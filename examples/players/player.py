@@ -15,6 +15,7 @@ import re
 import select
 import sys
 import threading
+import time
 import traceback
 from collections.abc import Callable
 from concurrent.futures import Future
@@ -28,6 +29,8 @@ MOST_BYTES, MOST_LISTS = 33_554_432, 66
 MOST_ANSWER = 4_096
 # A pipe that is ready for writing takes this many bytes at once.
 MOST_SAID = 4_000
+# If a referee is this many seconds late with its next message, the player counts as available again.
+PATIENCE = 10
 # Rules are evaluated by recursion. Each of 262,144 sentences may use the next one, inside some lists. This is deeper than Python's default limit.
 DEEPEST = 4_000_000
 
@@ -133,6 +136,12 @@ class Seat:
     role: object
     game: Game
     state: set
+    # The longer of the two clocks, and when the next message must have arrived.
+    clock: int
+    expected: float = 0.0
+
+    def expect(self):
+        self.expected = time.monotonic() + self.clock + PATIENCE
 
 
 class Player:
@@ -146,15 +155,18 @@ class Player:
     def answer(self, message, receiver=""):
         match message:
             case "info" | ("info",):
-                return "busy" if receiver in self.seats else "available"
-            case ("start", match_id, role, rules, _, _):
+                seat = self.seats.get(receiver)
+                return "busy" if seat and time.monotonic() < seat.expected else "available"
+            case ("start", match_id, role, rules, start, play):
                 game = self.make_game(rules)
                 # This ends the receiver's earlier match, but only after the rules were read successfully.
-                self.seats[receiver] = Seat(match_id, role, game, game.initial())
+                self.seats[receiver] = seat = Seat(match_id, role, game, game.initial(), max(int(start), int(play)))
+                seat.expect()
                 return "ready"
             case ("play", match_id, moves) if (seat := self.seats.get(receiver)) and seat.match_id == match_id:
                 if moves not in ("nil", ()):
                     seat.state = seat.game.next(seat.state, moves)
+                seat.expect()
                 moves = [show(move) for move in seat.game.legal(seat.state, seat.role)]
                 return self.choose([move for move in moves if len(move) <= MOST_ANSWER] or moves)
             case ("stop", match_id, _) | ("abort", match_id):

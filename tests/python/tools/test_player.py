@@ -71,7 +71,10 @@ def is_there(child, port):
 
 class Answers(unittest.TestCase):
     def setUp(self):
-        self.player = player.Player(lambda moves: moves[-1])
+        self.player, self.now = player.Player(lambda moves: moves[-1]), 0.0
+        clock = unittest.mock.patch.object(player, "time", unittest.mock.Mock(monotonic=lambda: self.now))
+        clock.start()
+        self.addCleanup(clock.stop)
 
     def answer(self, text, receiver="ann"):
         return self.player.answer(player.read_message(text), receiver)
@@ -108,6 +111,15 @@ class Answers(unittest.TestCase):
             self.assertEqual(self.answer(f"(START {match} red {RULES} 1 1)"), "ready")
         said = [self.answer(message) for message in ("(PLAY lost NIL)", "(ABORT lost)", "(PLAY m NIL)", "(STOP m NIL)", "(INFO)")]
         self.assertEqual(said, ["busy", "done", "(stay 1)", "done", "available"])
+
+    def test_a_referee_that_sends_nothing_more(self):
+        for clocks in "20 5", "5 20":
+            for message in f"(START m red {RULES} {clocks})", "(PLAY m NIL)":
+                self.answer(message)
+                self.now += 20 + player.PATIENCE - 1
+                self.assertEqual(self.answer("(INFO)"), "busy")
+            self.now += 1
+            self.assertEqual([self.answer(message) for message in ("(INFO)", "(PLAY m (go))", "(INFO)")], ["available", "(stay 1)", "busy"])
 
     def test_capitals_count_in_the_id_alone(self):
         self.answer(f"(Start ; (x)\n M RED {RULES.upper()} 1 1)")
