@@ -250,6 +250,7 @@ class LiveSite:
                 page.is_final = True
             self.pages = OrderedDict()
             self.begin(plan)
+        self.delay.coming = {match.id: match for _, plan in self.plans if isinstance(plan, Plan) for match in plan.matches}
 
     def count_results(self) -> None:
         """Computes the tables if results have changed, unless it has just done so."""
