@@ -634,4 +634,4 @@ class Reader:
 
     def waiting(self) -> list[Match]:
         """Returns the matches that are neither open nor over, in the schedule's order, including those that were given up."""
-        return [match for match in self.plan.matches if match.id not in self.results and match.id not in self.open and not match.withdrawn]
+        return [match for match in self.plan.matches if match.id not in self.results and match.id not in self.open and match.counts()]

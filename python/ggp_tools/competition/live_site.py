@@ -327,7 +327,7 @@ class LiveSite:
         match, live_match = self.reader.known[name], self.reader.open.get(name)
         head = live_pages.match_head(match, self.plan.competition, self.plan.roles(match.game))
         if not live_match:
-            return live_pages.waiting_match_parts(self.reader.faults.get(name, ""), self.reader.given_up.get(name, ""), head)
+            return live_pages.waiting_match_parts(self.reader.faults.get(name, ""), self.reader.given_up.get(name, ""), match.why_not(), head)
         return live_pages.open_match_parts(live_match, self.state_of(live_match), head)
 
     def board_items(self) -> list[tuple[str, str]]:
