@@ -117,6 +117,19 @@ class Seats(unittest.TestCase):
             self.assertEqual(self.seat.answer(f"(START M xplayer ({RULES}) 60 60)"), "busy")
         self.begin()
 
+    def test_of_two_starts_at_the_same_time_one_begins_a_match(self):
+        is_free, others = self.seat.is_free, iter([f"(START N xplayer ({RULES}) 60 60)"])
+
+        def followed():
+            """Another START comes right after the check."""
+            found = is_free()
+            self.answers += [self.seat.answer(other) for other in others]
+            return found
+
+        with mock.patch.object(self.seat, "is_free", followed):
+            self.answers.append(self.seat.answer(f"(START M xplayer ({RULES}) 60 60)"))
+        self.assertEqual((self.answers, self.seat.match), (["ready", "busy"], "N"))
+
     def test_only_start_may_be_long(self):
         self.begin()
         self.assertEqual(self.seat.answer(f"(PLAY M NIL{' ' * MOST_MESSAGE})"), "busy")
