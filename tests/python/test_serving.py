@@ -714,6 +714,19 @@ class Events(Served):
         self.assertTrue(self.next_event(events)["reload"])
         self.assertEqual(events.read().strip(), b"")
 
+    def test_a_page_that_is_dropped_as_somebody_begins_to_watch_it_is_loaded_again(self):
+        opened = self.site.opened
+
+        def opened_and_dropped(path):
+            page = opened(path)
+            with patch.object(live_site, "MOST_PAGES", 0):
+                self.site.drop_idle_pages()
+            return page
+
+        first = self.page("/")
+        with patch.object(self.site, "opened", opened_and_dropped):
+            self.assertTrue(self.next_event(self.events(first))["reload"])
+
     def test_who_is_gone_is_no_viewer_any_more(self):
         path = re.search('data-events="([^"]*)"', self.page("/"))[1]
         with socket.create_connection(("127.0.0.1", self.port), timeout=60) as visitor:

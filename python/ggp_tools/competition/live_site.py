@@ -417,4 +417,5 @@ class LiveSite:
         idle = [path for path, page in self.pages.items() if page.is_idle(now)]
         rest = [path for path, page in self.pages.items() if not page.viewers and path not in idle]
         for path in [*idle, *rest[: max(0, len(self.pages) - len(idle) - MOST_PAGES)]]:
-            del self.pages[path]
+            # If somebody has just begun to watch it, the browser must load it again.
+            self.pages.pop(path).is_final = True
