@@ -38,6 +38,10 @@ class Messages(unittest.TestCase):
         self.assertEqual((head_of(start), members_of(start)), (("start", "Ab.c"), ("red", (("role", "red"),), "5", "7")))
         self.assertEqual(head_of("info"), ("info", ""))
 
+    def test_a_start_that_is_nested_too_deeply_is_not_read_to_its_end(self):
+        with self.assertRaisesRegex(Unread, "lists are nested more than"):
+            members_of("(START a " + "(" * MOST_MESSAGE)
+
     def test_what_is_no_message_is_refused(self):
         for text in ("", "(", "x", "(PLAY)", "(PLAY a) (PLAY b)", "(info x)"):
             self.assertRaises(Unread, lambda: (head_of(text), members_of(text)))

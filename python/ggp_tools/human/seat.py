@@ -1,7 +1,6 @@
 """Plays one match at a time for a person: answers the referee's messages with the person's moves."""
 
 import contextlib
-import math
 import re
 import sys
 import threading
@@ -46,8 +45,8 @@ def head_of(text: str) -> tuple[str, str]:
 def members_of(text: str) -> tuple:
     """Returns the members of a message after its keyword and its match."""
     try:
-        # The rules in a message are parsed separately.
-        terms = expressions(text, math.inf, takes_bytes=True)
+        # The rules in a message are parsed separately. Only a START could be nested more deeply, and it would fill the memory.
+        terms = expressions(text, MOST_MESSAGE, takes_bytes=True)
     except Refused as why:
         raise Unread(str(why)) from None
     if len(terms) != 1:
