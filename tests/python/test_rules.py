@@ -9,7 +9,7 @@ from ggp_tools.competition.command import arguments
 from ggp_tools.competition.competition_file import read_competition
 from ggp_tools.competition.init_file import write_first_file
 from players import TestPlayer
-from support import GAMES, assert_spoilt, toml
+from support import GAMES, assert_spoilt, run, toml
 from test_archive import changed, files_of, without
 from test_grown import InArchive
 
@@ -150,6 +150,13 @@ class Rules(InArchive):
         assert_spoilt(self, files_of(self.folder / "cup.tar.gz"), {"the seeds are others": (changed("last/seeds.csv", lambda text: text.replace(order[0].encode(), b"x")), "schedule.tsv does not agree with")})
         self.assertEqual(self.ran("table", first, ".")[0], "cup + last: 12 of 12 matches")
         self.assertIn("two of the directories have a competition named cup; a joint table needs different names", self.refused("table", first, first))
+        self.assertIn("--to: only a table of several directories can be written elsewhere", self.refused("table", ".", "--to", first))
+        before, joint = (first / "table.json").read_bytes(), self.folder / "joint"
+        self.assertEqual(run(self.folder, "table", first, ".", "--to", joint)[::2], (1, f"ggp_competition: {joint}/table.txt: No such file or directory\n"))
+        joint.mkdir()
+        text = "\n".join(self.ran("table", first, ".", "--to", joint)) + "\n"
+        self.assertEqual(((joint / "table.txt").read_text(), sorted(file.name for file in joint.iterdir())), (text, ["crosstable.csv", "table.csv", "table.json", "table.txt"]))
+        self.assertEqual(((first / "table.json").read_bytes(), (self.folder / "table.json").exists()), (before, False))
 
     def test_a_first_file_by_options_and_by_questions(self):
         self.new_folder()
