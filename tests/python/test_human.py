@@ -5,11 +5,16 @@ import http.client
 import io
 import itertools
 import json
+import re
 import select
+import signal
 import socket
+import subprocess
+import sys
 import threading
 import time
 import unittest
+import urllib.request
 from unittest import mock
 
 from ggp_tools.holding.game import Game
@@ -19,7 +24,7 @@ from ggp_tools.human.seat import MOST_MESSAGE, Seat, Unread, head_of, members_of
 from ggp_tools.human.server import MOST_CONNECTIONS, Server
 from ggp_tools.records.show import boards_of, places_of
 from html_pages import parsed, text_of
-from support import GAMES
+from support import GAMES, TOP
 
 RULES = (GAMES / "tictactoe.kif").read_text(encoding="ascii")
 # Rules with variables: the role that says the other number wins.
@@ -551,3 +556,20 @@ class Pages(unittest.TestCase):
         self.assertEqual(self.request("POST", "/", b"(START \xff a ((role b)) x y)").status, 400)
         self.assertEqual(self.post(b"(START M a ((role a) (legal a \xff)) 60 60)"), b"ready")
         self.assertEqual(self.post(b"(PLAY M NIL)"), b"\xff")
+
+
+class Command(unittest.TestCase):
+    def test_it_serves_until_it_is_interrupted(self):
+        words = [sys.executable, TOP / "python/ggp-human", "--port"]
+        # The tests themselves may run in the background, where interrupts are ignored.
+        interruptible = {"preexec_fn": lambda: signal.signal(signal.SIGINT, signal.SIG_DFL)}
+        served = subprocess.Popen([*words, "0"], stderr=subprocess.PIPE, text=True, **interruptible)
+        for end in (served.stderr.close, served.wait, served.kill):
+            self.addCleanup(end)
+        address, port = re.fullmatch(r"open (http://127\.0\.0\.1:([0-9]+)/\S*)\n", served.stderr.readline()).groups()
+        with urllib.request.urlopen(address) as page:
+            self.assertIn(b"<html", page.read())
+        other = subprocess.run([*words, port], capture_output=True, text=True)
+        self.assertEqual((other.returncode, other.stderr), (1, f"ggp-human: 127.0.0.1:{port}: Address already in use\n"))
+        served.send_signal(signal.SIGINT)
+        self.assertEqual((served.communicate()[1], served.returncode), ("", 130))
