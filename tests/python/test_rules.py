@@ -103,6 +103,8 @@ class Rules(InArchive):
         self.ran("play")
         schedule = [line.split("\t")[4].split() for line in (self.folder / "schedule.tsv").read_text().splitlines()[1:]]
         self.assertEqual((len(schedule), {name for pair in schedule[4:] for name in pair}), (8, {"ann", "bob", "cid"}))
+        void = next(at for at, pair in enumerate(schedule, 1) if "dan" in pair)
+        self.assertIn(f"cup-{void:03} does not count: ", self.refused("again", ".", f"cup-{void:03}", "--reason", "x"))
         lines, notes = self.table()
         # The matches against eve and dan are points of byes, and add nothing to the Buchholz score.
         self.assertEqual(sorted(line["byes"] for line in lines.values()), [1, 2, 2])
