@@ -44,7 +44,7 @@ class Messages(unittest.TestCase):
         self.assertEqual(head_of("info"), ("info", ""))
 
     def test_what_is_no_message_is_refused(self):
-        for text in ("", "(", "x", "(PLAY)", "(PLAY a) (PLAY b)", "(info x)"):
+        for text in ("", "(", "x", "(PLAY)", "(PLAY a) (PLAY b)", "(info x)", "(PLAY a (b)", "(PLAY a b))"):
             self.assertRaises(Unread, lambda: (head_of(text), members_of(text)))
 
 
