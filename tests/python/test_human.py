@@ -126,6 +126,11 @@ class Seats(unittest.TestCase):
         self.begin()
         self.assertEqual(self.seat.answer(f"(PLAY M NIL{' ' * MOST_MESSAGE})"), "busy")
 
+    def test_what_is_no_message_of_a_match_leaves_it_open(self):
+        self.begin()
+        for message in ("(PLAY M)", "(PLAY M NIL NIL)", "(STOP M)", "(ABORT M NIL)", "(FINISH M NIL)"):
+            self.assertEqual((self.seat.answer(message), self.seat.match), ("busy", "M"), message)
+
     def test_time_that_is_over_is_no_answer(self):
         self.begin()
         self.seat.play_clock, began = 1, time.monotonic()
