@@ -15,7 +15,7 @@ from ggp_tools.competition.files import Refused, write_whole
 from ggp_tools.competition.game import trial
 from ggp_tools.competition.plan import faults_of_descriptions, make_plan, read_plan
 from ggp_tools.referee import NoReferee, find_program
-from support import COMMAND, GAMES, TOP, InFolder, call, program, program_but, raised, run, run_into_full, stand_in, toml
+from support import COMMAND, GAMES, ODD, TOP, InFolder, call, program, program_but, raised, run, run_into_full, stand_in, toml
 
 PLAYERS = [("ann", "127.0.0.1:9147"), ("bob", "127.0.0.1:9148")]
 FACTS = "(role a)\n(role b)\n"
@@ -246,6 +246,13 @@ class BadInput(InFolder):
             "competition.toml:8: games.file: two.kif: it can't be read",
             f'competition.toml:15: games.player_rules: {GAMES}/countdown.kif has no variables: use "ground"',
         ])
+
+    def test_games_whose_roles_do_not_fit(self):
+        (self.folder / "three.kif").write_text(ODD)
+        self.write(PLAYERS[:2], [("three", "three.kif")])
+        self.assert_refused("competition.toml:4: games.file: three has 3 roles, but the competition has 2 players")
+        self.write(PLAYERS, [("three", "three.kif")], form='kind = "knockout"')
+        self.assert_refused("competition.toml:4: games.file: the kind knockout is for games of two roles, but three has 3")
 
     def test_mistakes_have_line_and_key(self):
         self.write([*PLAYERS, ("ann", "nowhere")], [("tictactoe", GAMES / "tictactoe.kif")])

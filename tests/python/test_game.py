@@ -1,6 +1,7 @@
 """The command `game`: suspicious sentences, and random matches."""
 
 import os
+import resource
 import shutil
 import subprocess
 import sys
@@ -11,7 +12,7 @@ import pytest
 
 from ggp_tools.descriptions.goals import goals_said
 from ggp_tools.descriptions.suspicious import suspicions
-from support import COMMAND, GAMES, InFolder, program, program_but, run
+from support import COMMAND, GAMES, InFolder, program, program_but, run, run_into_full
 
 # A game of two turns, in which nothing is suspicious.
 SOUND = """(role ann) (role bob)
@@ -353,3 +354,11 @@ class Game(InFolder):
         for word, shown in [("", "''"), ("9" * 5_000, f"'{'9' * 20}..'")]:
             done = subprocess.run([sys.executable, COMMAND, "game", "none", "--seed", word], capture_output=True, text=True)
             self.assertTrue(done.stderr.endswith(f"argument --seed: expected a number from 0 to 1,000,000,000,000,000,000, found {shown}\n"), done.stderr)
+
+    def test_a_full_disk(self):
+        (self.folder / "game.kif").write_text(SOUND)
+        few = {"preexec_fn": lambda: resource.setrlimit(resource.RLIMIT_FSIZE, (100, 100)), "env": {**os.environ, "TMPDIR": str(self.folder)}}
+        status, _, said = run(self.folder, "game", "game.kif", **few)
+        self.assertEqual(status, 3)
+        self.assertRegex(said, rf"^ggp_competition: {self.folder}/\w+: File too large\n$")
+        self.assertEqual(run_into_full(self.folder, "game", "game.kif"), (1, "ggp_competition: standard output: No space left on device\n"))

@@ -8,7 +8,7 @@ import unittest
 from ggp_tools.competition.files import Folder, Refused
 from ggp_tools.competition.growth import Again
 from ggp_tools.competition.competition_file import read_competition
-from ggp_tools.competition.history import again_text, earlier_files, history_files, read_again, read_history, read_key
+from ggp_tools.competition.history import again_text, earlier_files, history_files, read_again, read_history, read_key, seeded
 from support import raised, toml
 
 TOML = toml([("ann", "h:1"), ("bob", "h:2")], [("nim", "f")])
@@ -36,6 +36,19 @@ class Histories(unittest.TestCase):
         for wrong in (b"", b"0" * 31 + b"\n", b"0" * 32, b"0" * 33 + b"\n", b"G" * 32 + b"\n"):
             self.folder.key.write_bytes(wrong)
             self.assertEqual(str(raised(Refused, read_key, self.folder, random)), f"{self.folder.key} is not what `ggp_competition plan` writes")
+
+    def test_the_seeds_are_the_order_of_a_table(self):
+        competition, table = read_competition(toml([(name, f"{name}:1") for name in ("ann", "bob", "cid", "dan")], [("nim", "f")]).encode()), self.folder.seeds
+        table.write_text("game,player,goals\nall games,cid,9\n\nall games,eve,8\nall games,bob,7\nnim,ann,9\n")
+        self.assertEqual([player.name for player in seeded(competition, table).players], ["cid", "bob", "ann", "dan"])
+        table.write_text("game,player\n")
+        self.assertEqual(seeded(competition, table), competition)
+        for wrong in (b"", b"the players of last year\n", b"game\nall games\n", b"player\nann\n", b"game,player\nall games\n", "game,player\nall games,ännchen\n".encode()):
+            table.write_bytes(wrong)
+            self.assertEqual(str(raised(Refused, seeded, competition, table)), f"{table} is not a table.csv that `ggp_competition table` writes")
+        table.unlink()
+        said = f"{table} can't be read: No such file or directory; `seeds` needs the table.csv that `ggp_competition table` writes"
+        self.assertEqual(str(raised(Refused, seeded, competition, table)), said)
 
     def test_files_by_which_it_was_planned_stand_in_the_order_of_their_numbers(self):
         self.add_earlier("10.toml", "9.toml", "100000.toml", "999999.toml")

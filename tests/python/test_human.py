@@ -5,11 +5,16 @@ import http.client
 import io
 import itertools
 import json
+import re
 import select
+import signal
 import socket
+import subprocess
+import sys
 import threading
 import time
 import unittest
+import urllib.request
 from unittest import mock
 
 from ggp_tools.holding.game import Game
@@ -19,7 +24,7 @@ from ggp_tools.human.seat import MOST_MESSAGE, Seat, Unread, head_of, members_of
 from ggp_tools.human.server import MOST_CONNECTIONS, Server
 from ggp_tools.records.show import boards_of, places_of
 from html_pages import parsed, text_of
-from support import GAMES
+from support import GAMES, TOP
 
 RULES = (GAMES / "tictactoe.kif").read_text(encoding="ascii")
 # Rules with variables: the role that says the other number wins.
@@ -43,7 +48,7 @@ class Messages(unittest.TestCase):
             members_of("(START a " + "(" * MOST_MESSAGE)
 
     def test_what_is_no_message_is_refused(self):
-        for text in ("", "(", "x", "(PLAY)", "(PLAY a) (PLAY b)", "(info x)"):
+        for text in ("", "(", "x", "(PLAY)", "(PLAY a) (PLAY b)", "(info x)", "(PLAY a (b)", "(PLAY a b))"):
             self.assertRaises(Unread, lambda: (head_of(text), members_of(text)))
 
 
@@ -137,6 +142,11 @@ class Seats(unittest.TestCase):
     def test_only_start_may_be_long(self):
         self.begin()
         self.assertEqual(self.seat.answer(f"(PLAY M NIL{' ' * MOST_MESSAGE})"), "busy")
+
+    def test_what_is_no_message_of_a_match_leaves_it_open(self):
+        self.begin()
+        for message in ("(PLAY M)", "(PLAY M NIL NIL)", "(STOP M)", "(ABORT M NIL)", "(FINISH M NIL)"):
+            self.assertEqual((self.seat.answer(message), self.seat.match), ("busy", "M"), message)
 
     def test_time_that_is_over_is_no_answer(self):
         self.begin()
@@ -568,3 +578,20 @@ class Pages(unittest.TestCase):
         self.assertEqual(self.request("POST", "/", b"(START \xff a ((role b)) x y)").status, 400)
         self.assertEqual(self.post(b"(START M a ((role a) (legal a \xff)) 60 60)"), b"ready")
         self.assertEqual(self.post(b"(PLAY M NIL)"), b"\xff")
+
+
+class Command(unittest.TestCase):
+    def test_it_serves_until_it_is_interrupted(self):
+        words = [sys.executable, TOP / "python/ggp-human", "--port"]
+        # The tests themselves may run in the background, where interrupts are ignored.
+        interruptible = {"preexec_fn": lambda: signal.signal(signal.SIGINT, signal.SIG_DFL)}
+        served = subprocess.Popen([*words, "0"], stderr=subprocess.PIPE, text=True, **interruptible)
+        for end in (served.stderr.close, served.wait, served.kill):
+            self.addCleanup(end)
+        address, port = re.fullmatch(r"open (http://127\.0\.0\.1:([0-9]+)/\S*)\n", served.stderr.readline()).groups()
+        with urllib.request.urlopen(address) as page:
+            self.assertIn(b"<html", page.read())
+        other = subprocess.run([*words, port], capture_output=True, text=True)
+        self.assertEqual((other.returncode, other.stderr), (1, f"ggp-human: 127.0.0.1:{port}: Address already in use\n"))
+        served.send_signal(signal.SIGINT)
+        self.assertEqual((served.communicate()[1], served.returncode), ("", 130))

@@ -545,6 +545,9 @@ class Play(InFolder):
         self.assertEqual(run(self.folder, "publish")[::2], (0, said))
         self.assertEqual(run(self.folder, "check", "cup.tar.gz")[::2], (0, ""))
         self.assertEqual(self.files(), {name: data for name, data in before.items() if name != "logs/cup-001.jsonl"})
+        (self.folder / "logs/cup-002.jsonl").unlink()
+        said = "ggp_competition: 2 matches from cup-001 to cup-002 count, but without times, because their logs are missing\n"
+        self.assertEqual(run(self.folder, "table")[::2], (0, said))
 
     def test_streams_that_are_closed(self):
         self.planned(["good", "good"])

@@ -7,9 +7,10 @@ from unittest import mock
 
 from ggp_tools.competition.command import arguments
 from ggp_tools.competition.competition_file import read_competition
+from ggp_tools.competition.files import Refused
 from ggp_tools.competition.init_file import write_first_file
 from players import TestPlayer
-from support import GAMES, assert_spoilt, toml
+from support import GAMES, assert_spoilt, raised, run, toml
 from test_archive import changed, files_of, without
 from test_grown import InArchive
 
@@ -102,6 +103,8 @@ class Rules(InArchive):
         self.ran("play")
         schedule = [line.split("\t")[4].split() for line in (self.folder / "schedule.tsv").read_text().splitlines()[1:]]
         self.assertEqual((len(schedule), {name for pair in schedule[4:] for name in pair}), (8, {"ann", "bob", "cid"}))
+        void = next(at for at, pair in enumerate(schedule, 1) if "dan" in pair)
+        self.assertIn(f"cup-{void:03} does not count: ", self.refused("again", ".", f"cup-{void:03}", "--reason", "x"))
         lines, notes = self.table()
         # The matches against eve and dan are points of byes, and add nothing to the Buchholz score.
         self.assertEqual(sorted(line["byes"] for line in lines.values()), [1, 2, 2])
@@ -150,6 +153,18 @@ class Rules(InArchive):
         assert_spoilt(self, files_of(self.folder / "cup.tar.gz"), {"the seeds are others": (changed("last/seeds.csv", lambda text: text.replace(order[0].encode(), b"x")), "schedule.tsv does not agree with")})
         self.assertEqual(self.ran("table", first, ".")[0], "cup + last: 12 of 12 matches")
         self.assertIn("two of the directories have a competition named cup; a joint table needs different names", self.refused("table", first, first))
+        (self.folder / "other").mkdir()
+        (self.folder / "other/game.kif").write_text(turns(0, 100))
+        (self.folder / "other/competition.toml").write_text(toml([("ann", "h:1"), ("bob", "h:2")], [("countdown", "game.kif")]).replace('"cup"', '"other"'))
+        self.ran("plan", "other")
+        self.assertIn("the rules of countdown in other differ from those in an earlier directory", self.refused("table", first, "other"))
+        self.assertIn("--to: only a table of several directories can be written elsewhere", self.refused("table", ".", "--to", first))
+        before, joint = (first / "table.json").read_bytes(), self.folder / "joint"
+        self.assertEqual(run(self.folder, "table", first, ".", "--to", joint)[::2], (1, f"ggp_competition: {joint}/table.txt: No such file or directory\n"))
+        joint.mkdir()
+        text = "\n".join(self.ran("table", first, ".", "--to", joint)) + "\n"
+        self.assertEqual(((joint / "table.txt").read_text(), sorted(file.name for file in joint.iterdir())), (text, ["crosstable.csv", "table.csv", "table.json", "table.txt"]))
+        self.assertEqual(((first / "table.json").read_bytes(), (self.folder / "table.json").exists()), (before, False))
 
     def test_a_first_file_by_options_and_by_questions(self):
         self.new_folder()
@@ -164,11 +179,16 @@ class Rules(InArchive):
             (["--final", "3"], "form.final: the competition has 2 players"), (["--name", "a cup"], "name: expected a name of 1 to 40 letters"), (["--players", "ann=9147"], "players.address: expected HOST:PORT"),
         ):
             self.assertIn(refused, self.refused("init", "other", *words[2:], *more))
+        for more in ([], ["--games", "countdown"], ["--knockout"]):
+            self.assertIn("--games, and one of --round-robin, --swiss, --gauntlet, --knockout, are needed", self.refused("init", "other", *more))
         self.assertFalse((self.folder / "other").exists())
         self.folder /= "cup"
         for command in (["plan"], ["play"], ["publish"], ["check", "cup.tar.gz"]):
             self.ran(*command)
         assert_spoilt(self, files_of(self.folder / "cup.tar.gz"), {"there is no final": (changed("cup/competition.toml", lambda text: text.replace(b"final = 2", b"")), "schedule.tsv does not agree with")})
+        asked = arguments(["init", str(self.folder / "asked/cup")])
+        with mock.patch("builtins.input", side_effect=["countdown", "league 1"]), mock.patch("sys.stdin.isatty", return_value=True):
+            self.assertIn("'league' is not one of round-robin, swiss, ", str(raised(Refused, write_first_file, asked)))
         asked = arguments(["init", str(self.folder / "asked/cup")])
         with mock.patch("builtins.input", side_effect=["countdown", "swiss 1", f"{ann},{bob}"]), mock.patch("sys.stdin.isatty", return_value=True):
             write_first_file(asked)

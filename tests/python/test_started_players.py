@@ -507,6 +507,16 @@ class Started(InFolder):
         status, out, said = run(self.folder, "try", "competition.toml", "ann")
         self.assertEqual((status, out.partition(";")[0]), (1, "down try ann: it ended with status 2"), said)
 
+    def test_try_tells_a_player_the_rules_with_variables(self):
+        text = toml([("ann", "h:1"), ("bob", "h:2")], [("nim", GAMES / "general/nim.kif", 'player_rules = "variables"')], head=self.HEAD)
+        command = f'command = ["{TOP}/examples/players/player.py", "{{port}}", "1"]\nstart_seconds = 600'
+        (self.folder / "competition.toml").write_text(text.replace('address = "h:1"', command))
+        shown = program_but(self.folder / "shown", '"$1" = check', 'for word; do case $word in --player-rules=*) cat "${word#*=}";; esac; done; exit 0')
+        status, out, said = run(self.folder, "try", ".", "ann", "--program", shown)
+        self.assertEqual((status, said, "(role first)" in out, " ?" in out), (0, "", True, True), out)
+        why = "competition.toml: bob has no `command`; `ggp_manager check` tests a running player"
+        self.assertEqual(run(self.folder, "try", "competition.toml", "bob"), (2, "", f"ggp_competition: {why}\n"))
+
     def test_plan_names_the_players_that_run_as_the_same_user(self):
         self.planned()
         words = "players that run as your user, and can read and change everything that you can: "

@@ -49,13 +49,14 @@ def competition_of_file(path: Path, text: bytes, seeds: Path | None = None) -> C
 def seeded(competition: Competition, path: Path) -> Competition:
     """Returns a competition with its players in the order of another competition's table. Players that the table lacks come last."""
     try:
-        rows = list(csv.DictReader(io.StringIO(file_bytes(path).decode("ascii"))))
-        seeds = {row["player"]: at for at, row in enumerate(rows) if row["game"] == ALL}
+        heads, *rows = filter(None, csv.reader(io.StringIO(file_bytes(path).decode("ascii"))))
+        game, player = heads.index("game"), heads.index("player")
+        seeds = {row[player]: at for at, row in enumerate(rows) if row[game] == ALL}
     except OSError as why:
         raise Refused(f"{path} can't be read: {why.strerror}; `seeds` needs the table.csv that `ggp_competition table` writes") from None
-    except (KeyError, csv.Error, UnicodeDecodeError):
+    except (ValueError, IndexError, csv.Error):
         raise Refused(f"{path} is not a table.csv that `ggp_competition table` writes") from None
-    return replace(competition, players=tuple(sorted(competition.players, key=lambda player: seeds.get(player.name, len(rows)))))
+    return replace(competition, players=tuple(sorted(competition.players, key=lambda entry: seeds.get(entry.name, len(rows)))))
 
 
 def earlier_files(folder: Folder, *new: int) -> list[Path]:
