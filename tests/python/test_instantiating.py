@@ -72,7 +72,9 @@ class Folding(unittest.TestCase):
         self.assertEqual([folding.folded(rules, targets).sentences() for targets in ([small], [large], [small, large])], [20, 42, 20])
         # If a target takes too much work, early or late, or is impossible, the next one is tried.
         too_short = small._replace(bytes=folding.begun(rules).bytes() // 2 - 1, work=1_000_000)
-        for target in (too_short, small._replace(work=1), small._replace(work=folding.begun(rules).formulas.work * folding.MORE_WORK), folding.Target(3, 10)):
+        late = small._replace(work=folding.folded(rules, [small]).formulas.work - 1)
+        folding.begun(rules).must_have_room(late)
+        for target in (too_short, small._replace(work=1), late, folding.Target(3, 10)):
             self.assertEqual(folding.folded(rules, [target, large]).sentences(), 42, target)
         why = raised(folding.Hopeless, folding.folded, rules, [folding.Target(3, 10), small._replace(work=1)])
         self.assertEqual(str(why), "factoring takes more than 1 steps")
