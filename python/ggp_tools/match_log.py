@@ -132,7 +132,7 @@ def is_value(key: str, value: object, kinds: tuple[type, ...]) -> bool:
 
 
 def event_of(line: bytes) -> Event | None:
-    """Parses a line. Returns the event in a line, or None if the line is not an event."""
+    """Returns the event in a line, or None if the line is not an event."""
     try:
         values = json.loads(line)
     except (ValueError, RecursionError):

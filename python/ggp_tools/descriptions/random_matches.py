@@ -29,7 +29,7 @@ def sum_of(texts: list[str]) -> bytes:
 
 
 def sum_of_state(state: State | bytes) -> bytes:
-    """Returns the checksum of a state, and caches it."""
+    """Returns the checksum of a state, which may be given as a checksum."""
     return state if isinstance(state, bytes) else sum_of(texts_of(state))
 
 

@@ -68,7 +68,7 @@ class Holding:
         return SAME, f"the same: {counted(turns, 'turn')}"
 
     def game(self) -> Game:
-        """Parses the game. Returns the game of the description. If the description is invalid, raises an error with the place."""
+        """Parses the game. If the description is invalid, raises an error with the place."""
         try:
             return Game(self.text)
         except Refused as why:

@@ -1,6 +1,6 @@
-"""Compiles rules to Python functions. There is one for each relation and each set of arguments that are known when the relation is queried.
+"""Compiles rules to Python functions. Each relation has one function for each set of arguments that a query gives.
 
-If all arguments are known, the function returns whether the sentence is true, and otherwise it returns the unknown arguments of all answers, without
+If a query gives all arguments, the function returns whether the sentence is true. Otherwise it returns the missing arguments of all answers, without
 duplicates. Results are cached for each position. Relations that depend on themselves are derived completely, bottom-up from the facts. """
 
 from collections.abc import Callable, Iterable, Iterator, Sequence

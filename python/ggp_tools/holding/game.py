@@ -77,7 +77,7 @@ class Game:
         return position.ask(GOAL, (True, False))(position, role)
 
     def sources(self, relation: Relation, arguments: Sequence[Term], state: State, moves: Sequence[Term] = ()) -> list[int]:
-        """Returns the sentences that derive an answer in a state."""
+        """Returns the numbers of the sentences that derive an atomic sentence in a state."""
         relations_by_sentence = {number: self.set_apart(relation, number, rules) for number, rules in self.by_sentence(relation).items()}
         if self.kept[0] != (state, moves):
             self.kept = (state, moves), self.position(state, moves)

@@ -34,7 +34,7 @@ class Position:
         self.move(pairs)
 
     def move(self, pairs: Sequence[tuple[str, Term]]) -> None:
-        """Sets the moves. Keeps the cached results that do not depend on moves."""
+        """Sets the moves, and keeps the cached results that do not depend on moves."""
         self.pairs, self.does = pairs, dict(pairs)
 
     def index(self, number: int, functor: tuple[str, int], places: tuple[int, ...]) -> Callable:
