@@ -52,7 +52,7 @@ def read(text):
 
 
 def read_message(text):
-    """Parses a message. Capitals are kept only in the id of the match, which comes after the parenthesis and the keyword."""
+    """Parses a message. Keeps capitals only in the id of the match, which follows the keyword."""
     message = read(text)[0]
     return (message[0], tokens(text)[2], *message[2:]) if isinstance(message, tuple) and len(message) > 1 else message
 
@@ -104,7 +104,7 @@ class Game:
 
     def is_derived(self, head, state, joint, known):
         """Returns whether all literals of some rule for this head are true."""
-        # Loops, because `any` and `all` would use stack for each rule.
+        # These are loops, because `any` and `all` would use stack for each rule.
         for body in self.bodies.get(head, []):
             for literal in body:
                 if not self.holds(literal, state, joint, known):
@@ -148,7 +148,7 @@ class Player:
             case ("start", match_id, role, rules, _, _):
                 game = self.make_game(rules)
                 seat = Seat(role, game, game.initial())
-                # This ends any other match, but only after the rules were read successfully.
+                # This ends any other match, but only if the rules are valid.
                 self.seats = {key: other for key, other in self.seats.items() if key[0] == match_id} | {(match_id, receiver): seat}
                 return "ready"
             case ("play", match_id, moves) if seat := self.seats.get((match_id, receiver)):
@@ -172,8 +172,8 @@ def is_waiting(stream):
 
 
 def say(text):
-    """Prints a line on standard error at once, because other players may print there too. It prints only visible characters, because anyone
-    can send a message. If the output is not read, it is dropped, and the player continues."""
+    """Prints a line on standard error at once, because other players may print there too. Because anyone can send a message, prints only visible
+    characters. If nobody reads the output, drops it."""
     seen = "".join(character if " " <= character <= "~" or character == "\n" else "?" for character in text[-MOST_SAID:])
     try:
         if sys.stderr and not is_waiting(sys.stderr):

@@ -1,7 +1,6 @@
 """Random small descriptions with variables. Each description is grounded in four forms, which must describe the same game. Each description has
-facts, recursive
-relations, states with nested terms, moves, and nested negations and `or`s. One form is used to play three matches. With the other forms, the same
-answers must give the same records, and each record is checked against the description."""
+facts, recursive relations, states with nested terms, moves, and nested negations and `or`s. One form is used to play three matches. With the other
+forms, the same answers must give the same records, and each record is checked against the description."""
 
 import random
 

@@ -189,9 +189,8 @@ FILE = {
 }
 HEADS = {"games": "[[games]]", "players": "[[players]]", "started": "[[players]]"}
 SWISS = {"form": {"kind": '"swiss"', "rounds": "2"}}
-# What happens if a key changes after matches were played. REFUSED: the change is refused with its name and line. SHOWN: the archive shows the
-# change, because the old file goes to `earlier`. FREE: no result of a played match depends on the key. The rules of a game are compared by their
-# checksums.
+# What happens if a key changes after matches were played. REFUSED: the change is refused with its name and line. SHOWN: the archive shows the change,
+# because the old file goes to `earlier`. FREE: no result of a played match depends on the key. The rules of a game are compared by their checksums.
 REFUSED, SHOWN, FREE = "refused", "shown", "free"
 CHANGES = (
     ("", "name", '"cup"', '"cop"', REFUSED, {}), ("", "start", "10", "9", REFUSED, {}), ("", "play", "10", "9", REFUSED, {}),

@@ -246,8 +246,7 @@ class Looked(unittest.TestCase):
 
     def known(self):
         """Checks everything with the help of the cached facts, and caches the new ones. Returns the results, and the number of records that the
-        referee
-        checked."""
+        referee checked."""
         known = Known(self.folder.path)
         results, faults, misfits = self.look(known)
         known.write()

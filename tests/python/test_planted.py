@@ -4,8 +4,7 @@ Ten games of different kinds get an error each: a missing rule, two swapped move
 the game with a cycle, the cycle is unrolled in half of its rounds. The place of the error is random, and matches by the wrong rules are played until
 one of them reaches the error: under the right rules, the answers of this match give a different record. No random match needs that many rounds of a
 cycle, so in that game the test chooses the moves: red's stones wind from side to side. The referee plays and checks by the same wrong rules, so it
-cannot
-notice the error. `ggp-hold-against` must find the error, and must find no error in the record by the right rules."""
+cannot notice the error. `ggp-hold-against` must find the error, and must find no error in the record by the right rules."""
 
 import functools
 import json

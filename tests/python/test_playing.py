@@ -26,8 +26,8 @@ from support import Reports, raised, toml
 
 
 class Standing:
-    """A fake match. It follows the test's steps for its id: each step is a stage or a call. There is one list of steps, or one for
-    each run of the match."""
+    """A fake match. It follows the test's steps for its id: each step is a stage or a call. There is one list of steps, or one for each run of the
+    match."""
 
     laid_down: dict = {}
     begun: list = []

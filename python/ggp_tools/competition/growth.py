@@ -127,8 +127,7 @@ class Growing:
 
     def take(self, before: Competition | None, competition: Competition, until: int | None, most: int | None) -> None:
         """Plans the matches that a version adds, and its rematches. If another version follows, plans up to `until` matches. No round begins after
-        `most`
-        matches."""
+        `most` matches."""
         if is_by_rounds(competition):
             refuse_numbers(competition, self.roles)
             self.add_again(competition, until)

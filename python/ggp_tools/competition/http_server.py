@@ -289,8 +289,8 @@ class Server:
             return response
 
     async def send_changes(self, response: web.StreamResponse, page: OpenPage, version: int, stays: Callable[[], bool]) -> None:
-        """Sends the changes to a page since a version, until the page is final or another stream replaces this one. Sending fails once
-        the visitor is gone."""
+        """Sends the changes to a page since a version, until the page is final or another stream replaces this one. Sending fails once the visitor is
+        gone."""
         is_last = False
         while not is_last and stays():
             with contextlib.suppress(TimeoutError):

@@ -51,8 +51,8 @@ def bounded(memory: int) -> list[str]:
 
 
 def limit(memory: int, processors: int, number: int) -> None:
-    """Limits this process and those that it starts: the memory of each process, and the processors of all. Different players get different
-    processors if there are enough."""
+    """Limits this process and those that it starts: the memory of each process, and the processors of all. Different players get different processors
+    if there are enough."""
     if memory:
         resource.setrlimit(resource.RLIMIT_DATA, (memory, memory))
     allowed = sorted(os.sched_getaffinity(0))
@@ -131,8 +131,7 @@ class Job:
 
     def status(self) -> int:
         """Returns the status of a process that has ended, and passes on the rest of its output. One read gets everything that is left in a pipe. The
-        process is not reaped
-        yet, so that no other process gets its number."""
+        process is not reaped yet, so that no other process gets its number."""
         os.set_blocking(self.pipe.fileno(), False)
         with contextlib.suppress(BlockingIOError, KeyError):
             self.pass_on()

@@ -44,8 +44,7 @@ def sum_or_none(path: str | pathlib.Path) -> str | None:
 
 
 class Facts(pickle.Unpickler):
-    """Reads stored facts. It accepts only dataclasses of this package and these types, so a file that somebody else wrote
-    cannot run code."""
+    """Reads stored facts. It accepts only dataclasses of this package and these types, so a file that somebody else wrote cannot run code."""
 
     TYPES = {("collections", "Counter"), ("datetime", "datetime"), ("datetime", "timedelta"), ("datetime", "timezone"), ("markupsafe", "Markup")}
 
@@ -98,8 +97,8 @@ class Known:
         self.used.setdefault(kind, {})[key] = value
 
     def write(self) -> None:
-        """Stores the facts. If facts of a kind were used, the other facts of this kind are dropped. Facts that cannot be stored are
-        computed again the next time."""
+        """Stores the facts. If facts of a kind were used, the other facts of this kind are dropped. Facts that cannot be stored are computed again
+        the next time."""
         new = {kind: pickle.dumps(values) for kind, values in self.used.items() if values != self.facts(kind)}
         if new and len(data := pickle.dumps(self.before | new)) <= MOST_BYTES:
             store(KIND, self.name, data, MOST_KEPT)

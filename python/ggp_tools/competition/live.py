@@ -35,11 +35,10 @@ from ggp_tools.referee import Referee
 from ggp_tools.reporting import NOT_BEGUN
 
 # Listing all records takes at most a tenth of the time, and one update reads records for at most READING seconds. The record of a match that was open
-# is read
-# at once.
+# is read at once.
 SHARE, READING = 10, 1.0
-# The system lists the locks in pieces, and may omit one while others are released. So a lock counts as released only if it is missing from this
-# many lists.
+# The system lists the locks in pieces, and may omit one while others are released. So a lock counts as released only if it is missing from this many
+# lists.
 LISTS = 5
 # The board of a match stays for this many seconds after its end.
 STAYS = 60

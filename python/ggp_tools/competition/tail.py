@@ -7,7 +7,7 @@ from typing import BinaryIO, Generic, NamedTuple, TypeVar
 from ggp_tools.competition.files import opened_file
 from ggp_tools.match_log import whole_lines
 
-# At most this many bytes are read at a time, so that a long log does not delay the others.
+# The most bytes that are read at a time, so that a long log does not delay the others.
 MOST_READ = 1 << 20
 # The first bytes show whether another file has replaced this one: in the log of a match, they include the time at which the match began.
 HEAD = 256
@@ -29,8 +29,8 @@ def extent_of(file: BinaryIO) -> Extent:
 
 
 class Tail(Generic[T]):
-    """The parsed lines of a growing file. Each read continues where the last one ended, or at the beginning if the file was replaced or cut. Once the
-    file is gone, a later file, which has the same lines, is read instead."""
+    """The parsed lines of a growing file. Each read continues where the last one ended, or at the beginning if the file was replaced or cut. If the
+    file is gone, reads `later` instead, a file with the same lines."""
 
     def __init__(self, path: str, parse: Callable[[bytes], T | None], later: str = "") -> None:
         self.path, self.parse, self.later = path, parse, later

@@ -37,8 +37,8 @@ MARKS = {
 
 @dataclass
 class Entry:
-    """Something that happened, with its time, which is empty if unknown, and its role, which is None if it concerns all roles. The journal and the
-    log may be from two computers whose clocks differ."""
+    """An event, with its time (empty if unknown) and its role (None if the event concerns all roles). The journal and the log may be from two
+    computers whose clocks differ."""
 
     time: str
     role: int | None
@@ -72,8 +72,8 @@ def merged(*parts: list[Entry]) -> list[Entry]:
 
 
 def in_order(notes: list[Entry], runs: list[list[Entry]], match_id: str) -> list[Entry]:
-    """Merges the notes of the journal and the runs of the log. Both are about one role. A run comes between the notes of its beginning and its end,
-    and the notes about the player are placed by their times. The log may lack the first runs."""
+    """Merges the notes of the journal and the runs of the log. Both are about one role. A run comes between the notes about its beginning and its
+    end. Notes about the player are placed by their times. The log may lack the first runs."""
     before, *begun = parts_at(notes, f"begin {match_id} ")
     if not begun:
         return [*notes, *sum(runs, [])]

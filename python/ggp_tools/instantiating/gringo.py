@@ -110,8 +110,7 @@ class TooSlow(Refused):
 
 
 class Grounder:
-    """One run of gringo. It ends when all instances were read, when a limit is exceeded, or at an exception, for example by
-    the timer."""
+    """One run of gringo. It ends when all instances were read, when a limit is exceeded, or at an exception, for example by the timer."""
 
     def __init__(self, program: LogicProgram, most: int = MOST_INSTANCES, seconds: float = math.inf) -> None:
         self.program, self.most, self.seconds, self.counts, self.lists = program, most, seconds, Counter(), {}

@@ -3,8 +3,7 @@
 Such sentences hold if they can be derived. Round 0 has the sentences that can be derived without the others of the cycle, and round n + 1 those that
 can be derived from the sentences of round n. In a cycle of k sentences, every derivable sentence is derived by round k - 1, because a derivation
 needs no sentence twice. In the last round the sentences keep their names. Sentences that no later round uses are left out. Two kinds of cycles need
-fewer
-rounds:
+fewer rounds:
 
 - A transitive relation with two arguments that is derived only from two halves, `r a c` from `r a b` and `r b c`. Each round doubles the length of
   paths, so the logarithm of the number of terms is enough.

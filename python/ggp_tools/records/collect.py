@@ -22,10 +22,9 @@ lines below an unlawful record say what was expected and what was found.
 
 `ggp-base`, `pgn` and `facts` write only lawful records, and report the others. `ggp-base` writes a file for each match, in the format of ggp-base;
 URL/NAME/ is the address of the game NAME. `pgn` writes the headers and the moves of each match, with an empty line between two matches. `facts`
-writes a line of JSON for each record, with facts that are not in the record. LOG, a file or a directory such as `logs` of a
-competition, has the times of messages. The DIR of --descriptions has the descriptions that were grounded, with the same file names as the rules. TEXT
-names the
-program that refereed the matches.
+writes a line of JSON for each record, with facts that are not in the record. LOG, a file or a directory such as `logs` of a competition, has the
+times of messages. The DIR of --descriptions has the descriptions that were grounded, with the same file names as the rules. TEXT names the program
+that refereed the matches.
 
 `log` prints logs as text, an event on each line, with at most 200 bytes of each message and each answer.
 

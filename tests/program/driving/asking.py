@@ -74,8 +74,8 @@ def asked_for_seconds(program, words, text=b""):
 
 
 def asked_in_shell(program, words, streams, text=b"", before=""):
-    """The same, with redirections by the shell in `streams`: for example, `>&-` closes standard output. The shell may run another
-    command before the program."""
+    """The same, with redirections by the shell in `streams`: for example, `>&-` closes standard output. The shell may run another command before the
+    program."""
     call = ["bash", "-c", f'{before} exec "$0" "$@" {streams}', program, *words]
     ran = subprocess.run(call, input=text, capture_output=True, timeout=PATIENCE)
     return Said(ran.returncode, ran.stdout, ran.stderr.decode(errors="replace"))
