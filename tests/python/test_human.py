@@ -82,7 +82,7 @@ class Seats(unittest.TestCase):
         return thread
 
     def ask_for_move(self):
-        """Lets the seat answer a PLAY, and waits until the person is asked."""
+        """Lets the seat answer a PLAY, and waits until the page asks for a move."""
         thread = self.ask("(PLAY M NIL)")
         with self.seat.changed:
             self.assertTrue(self.seat.changed.wait_for(lambda: self.seat.view["phase"] == "moving", SECONDS))

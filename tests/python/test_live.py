@@ -205,7 +205,7 @@ class Lines(InRoom):
 
     def test_how_many_moves_were_replaced_is_said(self):
         log = self.play(2, "NIL", [SILENT, SILENT]) + self.play(3, "((take 1) noop)", [SILENT, SILENT])
-        # The answers of the first match arrive long after those of the other one.
+        # The answers of the first match arrive long after those of the second.
         os.utime(begin(self.plan, self.match, started(self.match) + log), (2e9, 2e9))
         over = self.plan.matches[1]
         moves = [["(take 1)", "noop"]] * 5
@@ -273,7 +273,7 @@ class Lines(InRoom):
         leave_players(log.parent)
         look(reader)
         self.assertEqual((reader.open, len(reader.waiting()), os.listdir(log.parent)), ({}, 6, ["players"]))
-        # Its players are asked again.
+        # The match sends INFO to its players again.
         (log.parent / "asking").touch()
         look(reader)
         self.assertEqual(reader.open[self.match.id].stage, "asking")

@@ -1,4 +1,4 @@
-"""The live pages of an open match, compared with its record after each line of the log, for players with arbitrary answers."""
+"""Compares the live pages of an open match with its record, after each line of the log, for players with arbitrary answers."""
 
 import json
 import math

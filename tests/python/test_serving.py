@@ -613,7 +613,7 @@ class Refused(Served):
             self.assertEqual((heads[0], body), (heads[1], b""), path)
 
     def test_other_names(self):
-        # A site whose name leads to this address does not get the pages of a server that only this computer can reach.
+        # Only this computer can reach the server. A site whose name resolves to this address must not get the pages.
         self.assertEqual(self.ask("/", Host="evil.example")[0], 403)
         for host in ("localhost:80", "127.0.0.1", "[::1]:80"):
             self.assertEqual(self.ask("/", Host=host)[0], 200, host)

@@ -1,4 +1,4 @@
-"""Which matches may begin: with players that do not answer in several matches at once, and with a long queue in which no match can begin."""
+"""Which matches may begin, if players do not answer in several matches at once, and if no match of a long queue can begin."""
 
 import math
 import unittest

@@ -1,5 +1,4 @@
-"""A player that reads all live pages during an open turn before it answers learns nothing about the others' answers, not even that they have
-answered."""
+"""During an open turn, the live pages show a player nothing about the others' answers, not even that they have answered."""
 
 import contextlib
 import dataclasses

@@ -138,7 +138,7 @@ class All(WithProgram):
     def all(self, text, jobs=2, size=8, program=None):
         """Returns the output, the messages and the error for this input."""
         written, said, reads = [], [], iter([text[at : at + 3] for at in range(0, len(text), 3)])
-        # A thread of an earlier call may still read. Such a thread must not take the input of this call.
+        # A thread of an earlier call may still be reading, and must not take the input of this call.
         before = set(threading.enumerate())
         with contextlib.ExitStack() as stack:
             stack.enter_context(reading(lambda *_: b"" if threading.current_thread() in before else next(reads, b"")))

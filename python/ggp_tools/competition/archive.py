@@ -192,8 +192,8 @@ def version_of(folder: pathlib.Path) -> str:
 
 
 def check_archive(path: pathlib.Path, referee: Referee) -> tuple[list[str], str]:
-    """Returns the errors in an archive, as lines of printable ASCII of limited length. If there are none, also returns a sentence that says what was
-    checked."""
+    """Returns the errors in an archive, as lines of printable ASCII of limited length. If there are none, also returns a sentence about the
+    checks."""
     try:
         with tempfile.TemporaryDirectory() as empty:
             try:
@@ -244,7 +244,7 @@ def refuse(faults: Iterable[str]) -> None:
 
 
 def what_is_right(path: pathlib.Path, empty: pathlib.Path, referee: Referee) -> str:
-    """Unpacks an archive into an empty directory, checks it, and returns a sentence that says what was checked. Raises `Refused` with all errors."""
+    """Unpacks an archive into an empty directory, checks it, and returns a sentence about the checks. Raises `Refused` with all errors."""
     folder = unpack(path, empty)
     made_by = version_of(folder)
     refuse(faults_of_sums(folder))

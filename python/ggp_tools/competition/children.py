@@ -87,7 +87,7 @@ async def run(words: list[str], seconds: float | None = None) -> Done:
         talk = asyncio.create_task(process.communicate(b""))
         try:
             await asyncio.wait([talk], timeout=seconds)
-            # On a busy computer, this process may be late to notice that the other one has ended, or to read its output.
+            # On a busy computer, this process may be late to notice that the other process has ended, or to read its output.
             await asyncio.wait([talk], timeout=LATE if process.returncode is not None else SOON)
             streams = talk.result() if talk.done() else (b"", b"")
         finally:

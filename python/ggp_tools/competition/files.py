@@ -174,7 +174,7 @@ class Folder:
         self.rule_sums, self.description_sums = self.rules / "SHA256SUMS", self.rules / "DESCRIPTIONS.sha256"
         self.records, self.accounts, self.logs = (self.path / name for name in ("records", "accounts", "logs"))
         self.matches, self.pages = self.path / "matches.jsonl", self.path / "pages"
-        # The journal says what `play` has done, and when. The directory `players` has the logs of the players that `play` starts.
+        # The journal has the actions of `play`, with their times. The directory `players` has the logs of the players that `play` starts.
         self.journal, self.players = self.path / "play.log", self.path / "players"
 
     def rules_of(self, game: str) -> pathlib.Path:

@@ -117,9 +117,9 @@ class Delay:
 
 @dataclass
 class LiveMatch:
-    """An open match. The pages use only the finished rounds, and a timer that starts when `serve` notices that the last of these has finished.
-    If the state says whose turn it is, that role is shown as awaited. After half of the open round's time, all awaited roles are shown, and nothing
-    else of that round. `version` counts the changes of what is shown."""
+    """An open match. The pages use only the finished rounds, and a timer that starts when `serve` notices that the last of these has finished. If the
+    state says whose turn it is, that role is shown as awaited. After half of the open round's time, all awaited roles are shown, and nothing else of
+    that round. `version` counts the changes of the part that is shown."""
 
     match: Match
     roles: tuple[str, ...]
@@ -325,7 +325,7 @@ class Reader:
         self.results: dict[str, Result] = {}
         # What the pages show of the matches with results. An entry stays when its result is removed, because a page may still list the match.
         self.over: dict[str, Ended] = {}
-        # The matches that were open and have no result yet. Then the matches that have just got their result, with the time of the clock and the last
+        # The matches that were open and have no result yet. Then the matches whose result has just arrived, with the clock's time and the last
         # states.
         self.ending: set[str] = set()
         self.ended: dict[str, tuple[float, list[list[str]]]] = {}

@@ -66,7 +66,7 @@ class OpenMatch:
         self.is_broken, self.goes_on, self.stops_game = False, False, False
 
     async def go(self) -> None:
-        """Plays the match. If it is ended while it is being played, it is broken."""
+        """Plays the match. A match that is ended while it is being played is broken."""
         try:
             self.directory.mkdir(0o700, parents=True, exist_ok=True)
             self.enter(ASKING)
@@ -182,7 +182,7 @@ class OpenMatch:
         return None if done.status else done.output
 
     async def play_elsewhere(self) -> bytes | None:
-        """Plays the match as a job of the launcher. If the job is lost, this starts another one."""
+        """Plays the match as a job of the launcher. If the job is lost, starts another one."""
         for tries_left in reversed(range(self.plan.competition.tries)):
             job = MatchJob(self)
             if not (done := await job.play()):

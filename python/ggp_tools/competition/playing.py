@@ -63,7 +63,7 @@ class Playing:
         return not self.interrupts and not self.is_full and not (match and match.game in self.stopped)
 
     def begin(self) -> None:
-        """Opens matches, as long as fewer matches than allowed have slots, and another one can begin."""
+        """Opens matches until as many as allowed have slots, or no further match can begin."""
         self.searched_at, playing = time.monotonic(), sum(open_match.has_slots for open_match in self.open)
         while self.may_begin() and playing < self.at_once and (match := self.slots.next_match(self.waiting, self.searched_at)):
             open_match = OpenMatch(self, match)

@@ -22,7 +22,7 @@ from ggp_tools.reporting import Reporter
 HERE, NOWHERE = "127.0.0.1", "127.0.0.1:1"
 # A player must end within this many seconds.
 END_SECONDS = 15
-# The first pause between two INFO messages to a player that is starting. Each pause is twice as long as the one before, up to a second.
+# The first pause between two INFO messages to a player that is starting. Each pause is twice as long as the previous one, up to a second.
 FIRST_PAUSE, LONGEST_PAUSE = 0.05, 1.0
 # A larger log is renamed, and replaces the one that was renamed before.
 MOST_BYTES = 1 << 20

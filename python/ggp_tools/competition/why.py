@@ -124,7 +124,7 @@ class Explanation:
         return [[self.entry_of(message, run is runs[-1]) for message in run] for run in runs]
 
     def entry_of(self, message: Message, counts: bool) -> Entry:
-        """Explains a message to a role and its answer. If it is in the record, this says what was played."""
+        """Explains a message to a role and its answer. If the message is in the record, this also says what was played."""
         head = f"turn {message.turn()}: {PLAY}" if message.kind == PLAY else str(message.kind)
         came = message_of(message.came())
         text = f"{head} brought {came} after {message.ms} ms" if message.error else f"{head} was answered `{came}` after {message.ms} ms"

@@ -72,7 +72,7 @@ class Request(io.RawIOBase):
         return self.received / (time.monotonic() - self.began + 0.001)
 
     def is_whole(self) -> None:
-        """Records that the request has arrived: the connection no longer gives way, and the answer gets a separate deadline."""
+        """Records that the request has arrived: the connection is no longer closed for another one, and the answer gets a separate deadline."""
         self.is_idle = False
         self.connection.settimeout(PATIENCE)
         # The kernel ends a connection whose client has disappeared without closing it, for example because its computer is offline.
@@ -216,8 +216,8 @@ class Server(ThreadingHTTPServer):
         self.ends, self.strangers = 0.0, []
 
     def verify_request(self, request: socket.socket, client_address: tuple[str, int]) -> bool:
-        """Returns whether a connection gets a thread. A thread costs much more than a refusal. If there are too many connections, the oldest one without
-        a complete request gives way, but not to a stranger that has used up its share."""
+        """Returns whether a connection gets a thread. A thread costs much more than a refusal. If there are too many connections, the oldest one
+        without a complete request is closed, except for a stranger that has used up its share."""
         client = client_of(client_address[0])
         is_stranger = client != THIS_COMPUTER and client_address[0] not in self.seat.referees
         if is_stranger and not self.is_in_share(client) or not self.visitors.has_room_for(client):

@@ -52,8 +52,8 @@ def is_halved(circle: list[Expression], rules_for: RulesFor) -> bool:
 
 
 def has_all_halves(circle: list[Expression], rules_for: RulesFor) -> bool:
-    """Returns whether any two sentences of the cycle that are the halves of a third sentence have a rule that derives it, and the third sentence is
-    in the cycle. Otherwise some paths do not consist of halves."""
+    """Checks all pairs of sentences of the cycle that are the halves of a third sentence: returns whether this sentence is always in the cycle, and
+    always has a rule that derives it from the two. Otherwise some paths do not consist of halves."""
     begun, bodies, members = grouped(circle, itemgetter(1)), {}, set(circle)
     for half in circle:
         for other in begun.get(half[2], ()):

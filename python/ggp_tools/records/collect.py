@@ -80,7 +80,7 @@ def row_of(judged: Judged) -> str:
 
 
 def explained(judged: Judged) -> list[str]:
-    """Explains why a line is not a lawful record, if this is known."""
+    """Explains why a line is not a lawful record, if the reason is known."""
     if judged.game and judged.verdict.startswith(NOT_LAWFUL):
         return explanation(judged.verdict.removeprefix(NOT_LAWFUL), judged.game.rules, judged.line.data)
     return json_lines(judged.line.data)[1:] if judged.line.record is None and judged.line.data else []
