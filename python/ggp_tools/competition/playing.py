@@ -44,7 +44,7 @@ class Playing:
         self.plan, self.referee, self.reporter = plan, referee, reporter
         self.slots, self.launcher = Slots(plan.competition), plan.competition.launcher
         self.at_once = self.launcher.slots if self.launcher else at_once
-        # `news` is set after an interrupt, and when matches may begin that could not begin before. `ends` is set when there is another result.
+        # `news` is set after an interrupt, and when further matches may be able to begin. `ends` is set when there is another result.
         self.news, self.ends = asyncio.Event(), asyncio.Event()
         self.players = StartedPlayers(plan.folder, plan.competition, referee, reporter)
         # By match id: the results, and the reasons why matches have none. By game: why no more of its matches begin.

@@ -1,4 +1,4 @@
-"""Shows a script next to its replies, with fake programs."""
+"""`examples/side-by-side`, with fake programs."""
 import os
 import subprocess
 import tempfile
