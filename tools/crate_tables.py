@@ -8,8 +8,8 @@ from unit_crates import UNIT, is_program, unit_crates
 CRATES = "| Crate | Uses | Purpose |"
 TESTS = "| Crate of tests | What it tests |"
 # The layers are in the code block after this line.
-LAYERS = "The crates of the program. Each uses only crates in the rows below its own:\n"
-LAYER_ROWS = r"\n(?:    .*\n)*"
+LAYERS = "These are the crates of the program. Each crate uses only crates in rows below its own:"
+LAYER_ROWS = r"\n\n(?:    .*\n)*"
 # Crates that no crate of the program uses.
 ANNEXES = ("worked",)
 # A table is its head and the rows below it.
@@ -77,7 +77,7 @@ def layers(known: dict[str, list[str]]) -> list[list[str]]:
 def with_layers(text: str, found: list[list[str]]) -> str:
     """Replaces the layers in a text."""
     body = "".join(f"    {' '.join(names)}\n" for names in found)
-    return re.sub(re.escape(LAYERS) + LAYER_ROWS, lambda _: f"{LAYERS}\n{body}", text)
+    return re.sub(re.escape(LAYERS) + LAYER_ROWS, lambda _: f"{LAYERS}\n\n{body}", text)
 
 
 def with_table(text: str, head: str, rows: list[Row]) -> str:

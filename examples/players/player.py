@@ -3,8 +3,9 @@
 
     player.py PORT [SEED]
 
-It listens on 127.0.0.1, answers INFO, START, PLAY, STOP and ABORT, and plays one match at a time: that of the last START. The same SEED, a whole
-number, chooses the same moves. The player needs only Python's standard library.
+It listens on 127.0.0.1, answers INFO, START, PLAY, STOP and ABORT, and plays one match at a time: that of the last START. If messages for several
+names come to its port, it plays one match for each name. The same SEED, a whole number, chooses the same moves. The player needs only Python's
+standard library.
 """
 
 import argparse
@@ -14,6 +15,7 @@ import re
 import select
 import sys
 import threading
+import time
 import traceback
 from collections.abc import Callable
 from concurrent.futures import Future
@@ -27,6 +29,8 @@ MOST_BYTES, MOST_LISTS = 33_554_432, 66
 MOST_ANSWER = 4_096
 # A pipe that is ready for writing takes this many bytes at once.
 MOST_SAID = 4_000
+# If a referee is this many seconds late with its next message, the player counts as available again.
+PATIENCE = 10
 # Rules are evaluated by recursion. Each of 262,144 sentences may use the next one, inside some lists. This is deeper than Python's default limit.
 DEEPEST = 4_000_000
 
@@ -126,16 +130,23 @@ class Game:
 
 @dataclass
 class Seat:
-    """A role that the player plays in its match."""
+    """A role that the player plays in a match."""
 
+    match_id: str
     role: object
     game: Game
     state: set
+    # The longer of the two clocks, and when the next message must have arrived.
+    clock: int
+    expected: float = 0.0
+
+    def expect(self):
+        self.expected = time.monotonic() + self.clock + PATIENCE
 
 
 class Player:
-    """The state of the player's match, and its answers. The header `Receiver` of a message names the role's player, because several roles of a match
-    may have the same address."""
+    """The player's match for each value of the header `Receiver`, and its answers. Two roles of a match, or two players of different matches, may have
+    the same address under different names. A message for one name changes nothing for the others."""
 
     def __init__(self, choose, game=Game):
         self.choose, self.make_game = choose, game
@@ -144,21 +155,24 @@ class Player:
     def answer(self, message, receiver=""):
         match message:
             case "info" | ("info",):
-                return "busy" if self.seats else "available"
-            case ("start", match_id, role, rules, _, _):
+                seat = self.seats.get(receiver)
+                return "busy" if seat and time.monotonic() < seat.expected else "available"
+            case ("start", match_id, role, rules, start, play):
                 game = self.make_game(rules)
-                seat = Seat(role, game, game.initial())
-                # This ends any other match, but only if the rules are valid.
-                self.seats = {key: other for key, other in self.seats.items() if key[0] == match_id} | {(match_id, receiver): seat}
+                # This ends the receiver's earlier match, but only after the rules were read successfully.
+                self.seats[receiver] = seat = Seat(match_id, role, game, game.initial(), max(int(start), int(play)))
+                seat.expect()
                 return "ready"
-            case ("play", match_id, moves) if seat := self.seats.get((match_id, receiver)):
+            case ("play", match_id, moves) if (seat := self.seats.get(receiver)) and seat.match_id == match_id:
                 if moves not in ("nil", ()):
                     seat.state = seat.game.next(seat.state, moves)
+                seat.expect()
                 moves = [show(move) for move in seat.game.legal(seat.state, seat.role)]
                 return self.choose([move for move in moves if len(move) <= MOST_ANSWER] or moves)
             case ("stop", match_id, _) | ("abort", match_id):
                 # The player may not know this match.
-                self.seats.pop((match_id, receiver), None)
+                if (seat := self.seats.get(receiver)) and seat.match_id == match_id:
+                    del self.seats[receiver]
                 return "done"
         return "busy"
 

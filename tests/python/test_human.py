@@ -38,6 +38,10 @@ class Messages(unittest.TestCase):
         self.assertEqual((head_of(start), members_of(start)), (("start", "Ab.c"), ("red", (("role", "red"),), "5", "7")))
         self.assertEqual(head_of("info"), ("info", ""))
 
+    def test_a_start_that_is_nested_too_deeply_is_not_read_to_its_end(self):
+        with self.assertRaisesRegex(Unread, "lists are nested more than"):
+            members_of("(START a " + "(" * MOST_MESSAGE)
+
     def test_what_is_no_message_is_refused(self):
         for text in ("", "(", "x", "(PLAY)", "(PLAY a) (PLAY b)", "(info x)"):
             self.assertRaises(Unread, lambda: (head_of(text), members_of(text)))
@@ -116,6 +120,19 @@ class Seats(unittest.TestCase):
         with self.seat.reading:
             self.assertEqual(self.seat.answer(f"(START M xplayer ({RULES}) 60 60)"), "busy")
         self.begin()
+
+    def test_of_two_starts_at_the_same_time_one_begins_a_match(self):
+        is_free, others = self.seat.is_free, iter([f"(START N xplayer ({RULES}) 60 60)"])
+
+        def followed():
+            """Another START comes right after the check."""
+            found = is_free()
+            self.answers += [self.seat.answer(other) for other in others]
+            return found
+
+        with mock.patch.object(self.seat, "is_free", followed):
+            self.answers.append(self.seat.answer(f"(START M xplayer ({RULES}) 60 60)"))
+        self.assertEqual((self.answers, self.seat.match), (["ready", "busy"], "N"))
 
     def test_only_start_may_be_long(self):
         self.begin()

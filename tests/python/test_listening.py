@@ -250,6 +250,7 @@ def test_a_desk_that_is_killed(tmp_path: pathlib.Path) -> None:
         ("--listen={used}", "{used}: Address already in use (os error 98)\nggp_manager: can't listen"),
         ("--listen=unix:{folder}/file", "unix:{folder}/file: Address already in use (os error 98)\nggp_manager: can't listen"),
         ("--listen=unix:{folder}/gone/socket", "unix:{folder}/gone/socket: No such file or directory (os error 2)\nggp_manager: can't listen"),
+        ("--listen=unix:", "unix:: invalid input parameter\nggp_manager: can't listen"),
         ("--listen=192.0.2.1:1", "192.0.2.1:1: Cannot assign requested address (os error 99)\nggp_manager: can't listen"),
         ("--listen=127.0.0.1", "127.0.0.1: invalid socket address\nggp_manager: can't listen"),
         ("--history={folder}/file", "bad file of calls: the file exists"),

@@ -89,6 +89,15 @@ class Growing(unittest.TestCase):
             self.file.write_text("ab\ncdefghijk\nlm\n")
             self.assertEqual([self.added()[0] for _ in range(3)], [["ab", "cdefghijk"], ["lm"], []])
 
+    def test_a_line_that_is_too_long_is_left_out_in_parts(self):
+        with mock.patch.object(tail, "MOST_READ", 4), mock.patch.object(tail, "LONGEST_LINE", 4):
+            self.file.write_text("ab\ncdefghijk\nlm\ncut off")
+            self.assertEqual([self.added()[0] for _ in range(5)], [["ab"], [], ["lm"], [], []])
+            self.assertEqual((self.tail.place, self.tail.is_behind), (20, False))
+            # Another file begins with a line that is read.
+            self.file.write_text("new\n")
+            self.assertEqual(self.added(), (["new"], True))
+
     def test_what_is_no_file_has_no_lines(self):
         self.assertEqual(self.added(Tail(str(self.file.parent), parsed)), ([], False))
         os.mkfifo(self.file)

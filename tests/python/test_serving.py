@@ -553,6 +553,45 @@ class Delayed(Served):
             self.site.update()
             self.assertIs(self.site.plan, self.plan if at < 2 else plans[at - 2])
 
+    def test_the_matches_of_a_later_plan_are_shown_no_later_than_others(self):
+        opened, over = self.plan.matches[4:]
+        first = dataclasses.replace(self.plan, matches=self.plan.matches[:4])
+        self.site = self.server.site = LiveSite(first, Referee(program()), lambda: self.plan, delay=60)
+        self.look()
+        self.moment += 1
+        self.plan.folder.schedule.write_text("another")
+        begin(self.plan, opened, started(opened))
+        end(self.plan, over, record_of(over, [["(take 1)", "noop"]], [["", ""]], [0, 100]))
+        os.utime(self.plan.folder.record(over.id), (self.moment, self.moment))
+        for seconds, expected in ((0, []), (59, []), (1, ["open", "over"])):
+            self.moment += seconds
+            self.look()
+            self.look()
+            states = {row["id"]: row["state"] for row in json.loads(self.page("/api/matches"))["matches"]}
+            self.assertEqual([states[match.id] for match in (opened, over) if match.id in states], expected)
+
+    def test_an_open_match_that_a_later_plan_lacks(self):
+        begin(self.plan, self.plan.matches[-1])
+        self.look_at(1)
+        self.assertEqual(self.look_at(60)[0], "1 match is open")
+        self.site.read_plan = lambda: dataclasses.replace(self.plan, matches=self.plan.matches[:-1])
+        self.plan.folder.schedule.write_text("another")
+        self.look()
+        self.moment += 60
+        self.look()
+        self.look()
+        first = self.page("/")
+        self.assertIn("0 matches are open", first)
+        self.assertNotIn("KeyError", first)
+
+    def test_a_record_from_the_future_is_not_shown_later_than_others(self):
+        match = self.plan.matches[0]
+        end(self.plan, match, record_of(match, [["(take 1)", "noop"]], [["", ""]], [0, 100]))
+        os.utime(self.plan.folder.record(match.id), (self.moment + 10_000, self.moment + 10_000))
+        self.site = self.server.site = LiveSite(self.plan, Referee(program()), lambda: self.plan, delay=60)
+        self.look()
+        self.assertEqual([self.look_at(seconds)[1] for seconds in (59, 1)], ["0 of 6", "1 of 6"])
+
     def test_a_round_that_was_paired_a_moment_ago_waits_also_for_a_server_that_begins_then(self):
         matches = [dataclasses.replace(match, round=1 + at // 2) for at, match in enumerate(self.plan.matches)]
         plan = dataclasses.replace(self.plan, matches=matches, rounds=[Round(number, (), ()) for number in (1, 2, 3)])
@@ -673,6 +712,19 @@ class Events(Served):
         self.look()
         self.assertTrue(self.next_event(events)["reload"])
         self.assertEqual(events.read().strip(), b"")
+
+    def test_a_page_that_is_dropped_as_somebody_begins_to_watch_it_is_loaded_again(self):
+        opened = self.site.opened
+
+        def opened_and_dropped(path):
+            page = opened(path)
+            with patch.object(live_site, "MOST_PAGES", 0):
+                self.site.drop_idle_pages()
+            return page
+
+        first = self.page("/")
+        with patch.object(self.site, "opened", opened_and_dropped):
+            self.assertTrue(self.next_event(self.events(first))["reload"])
 
     def test_who_is_gone_is_no_viewer_any_more(self):
         path = re.search('data-events="([^"]*)"', self.page("/"))[1]

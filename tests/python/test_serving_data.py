@@ -1,6 +1,7 @@
 """Data of `serve` for other programs: JSON, events and numbers. Other sites may embed the pages only if the host allows this, with and without a
 proxy."""
 
+import dataclasses
 import errno
 import json
 import os
@@ -14,10 +15,13 @@ from unittest.mock import patch
 
 import pytest
 from ggp_tools.competition import live_api
+from ggp_tools.competition.live_site import LiveSite
 from ggp_tools.competition.serving import origin
+from ggp_tools.referee import Referee
+from html_pages import parsed, text_of
 from live_support import SILENT, begin, end, record_of, started
 from packages import searched
-from support import TOP, run
+from support import TOP, program, run
 from test_serving import Served
 
 
@@ -59,6 +63,23 @@ class Data(Served):
         wanted = {'ggp_matches{state="over"}': "1", 'ggp_matches{state="given up"}': "1", 'ggp_matches{state="waiting"}': "4", "ggp_serve_viewers": "1"}
         wanted |= {'ggp_player_replaced{player="ann"}': "1", "ggp_play_running": "0", "ggp_records_unread": "0"}
         self.assertEqual({name: numbers[name] for name in wanted}, wanted)
+
+    def test_a_match_that_is_not_played_is_not_waiting(self):
+        gone, replaced, _, last, *rest = self.plan.matches
+        gone, replaced = dataclasses.replace(gone, withdrawn="cid has withdrawn"), dataclasses.replace(replaced, again=last.id, reason="a <fault>")
+        self.plan.matches = [gone, replaced, *self.plan.matches[2:]]
+        self.plan.folder.record(replaced.id).write_text("{}")
+        self.site = self.server.site = LiveSite(self.plan, Referee(program()), lambda: self.plan)
+        self.look()
+        rows = self.json("/api/matches")["matches"]
+        whys = {gone.id: "cid has withdrawn", replaced.id: f"{last.id} replaces it: a <fault>"}
+        self.assertEqual({row["id"]: row["why"] for row in rows if row["state"] == "not played"}, whys)
+        numbers = self.page("/metrics")
+        self.assertIn('{state="not played"} 2\n', numbers)
+        self.assertIn('{state="waiting"} 4\n', numbers)
+        self.assertIn("0 matches are open, 4 are waiting.", self.page("/"))
+        for name, why in whys.items():
+            self.assertEqual(text_of(parsed(self.page(f"/matches/{name}.html")).find(id="now")), f"It is not played: {why}.")
 
     def test_a_match_that_is_open_again_is_not_the_one_before(self):
         match, found = self.plan.matches[0], []

@@ -2,6 +2,7 @@
 
 use std::alloc::{AllocError, Global};
 use std::io;
+use std::io::ErrorKind;
 use std::net::{TcpListener, TcpStream};
 use std::os::fd::OwnedFd;
 use std::os::unix::net::UnixListener;
@@ -15,6 +16,8 @@ pub trait Listens {
 impl Listens for HostRuntime {
     fn listen(&self, address: &str) -> io::Result<Listener> {
         match address.strip_prefix("unix:") {
+            // The system would choose a name that no client knows.
+            Some("") => Err(io::Error::from(ErrorKind::InvalidInput)),
             Some(path) => Ok(Listener::Unix(UnixListener::bind(self, path)?)),
             None => Ok(Listener::Tcp(TcpListener::bind(self, address)?)),
         }

@@ -20,9 +20,6 @@ use whole_streams::laws::lines_are_taken;
 /// The largest number of bytes of a row, as in a script.
 const MAX_ROW: usize = 1_048_576;
 
-/// The initial capacity for a reply's text, which is enough for most replies.
-const USUAL_LENGTH: usize = 128;
-
 /// The desk of a service, and what is needed to make calls on it.
 #[derive(Drop)]
 pub struct Serving<'a, O: Object, L: Ledger, R> {
@@ -31,24 +28,25 @@ pub struct Serving<'a, O: Object, L: Ledger, R> {
     pub desk: &'a LockDesk<O, L>,
 }
 
-/// Appends a reply and a line feed. After an error nothing is appended.
-fn push_answer(out: &mut Vec<u8>, alloc: Global, reply: &Reply) -> Result<(), CallFault>
+/// Appends a reply and a line feed, by way of `text`. After an error nothing is appended.
+fn push_answer(out: &mut Vec<u8>, text: &mut Vec<u8>, reply: &Reply) -> Result<(), CallFault>
     ensures answer { OnOk result (out.new.items ≡ out.old.items ++ (reply_text reply.now ++ line_feed ∷ [])) }
     ensures same { OnErr result (out.new.items ≡ out.old.items) }
     ensures memory { IfErr result (λ fault. fault ≡ CallFault.Memory) }
 {
-    let mut text = Vec::with_capacity(alloc, USUAL_LENGTH)?;
-    push_reply(&mut text, reply)?;
+    text.clear();
+    push_reply(text, reply)?;
     text.extend_from_slice(b"\n")?;
-    out.extend_from_slice(&text)?;
+    out.extend_from_slice(text)?;
     Ok(())
 }
 
-/// Appends the answer to a row. After an error nothing is appended. If memory ran out, the call may have been made.
+/// Appends the answer to a row, by way of `text`. After an error nothing is appended. If memory ran out, the call may have been made.
 fn answer_row<O: Object<Call = Call, Reply = Reply>, L: Ledger, R: Wait>(
     serving: &Serving<'_, O, L, R>,
     line: &mut LockLine<L>,
     row: &[u8],
+    text: &mut Vec<u8>,
     out: &mut Vec<u8>,
 ) -> Result<(), CallFault>
     ensures number { line.new.number ≡ line.old.number }
@@ -62,7 +60,7 @@ fn answer_row<O: Object<Call = Call, Reply = Reply>, L: Ledger, R: Wait>(
         return Ok(());
     };
     let reply = serving.desk.ask(serving.rt, line, call)?;
-    push_answer(out, serving.alloc, &reply)
+    push_answer(out, text, &reply)
 }
 
 /// The bytes before and after the first line feed.
@@ -107,9 +105,10 @@ pub(crate) fn answer_chunk<O: Object<Call = Call, Reply = Reply>, L: Ledger, R: 
 {
     lines_are_taken();
     let mut rest = chunk;
+    let mut text = Vec::new(serving.alloc);
     while let Some((piece, more)) = first_row(rest) {
         grow_row(row, piece)?;
-        answer_row(serving, line, without_return(row), out)?;
+        answer_row(serving, line, without_return(row), &mut text, out)?;
         row.clear();
         rest = more;
     }

@@ -4,8 +4,8 @@ use Rattle.match_play.specs.declared.playing.MatchFault.{MatchFault}
 use Rattle.match_play.specs.declared.playing.MatchFault.TheVariants.{Refused as MatchRefused, NotEnded, Shortage as MatchShortage, Memory as MatchMemory}
 use Rattle.match_season.specs.declared.season_output.SeasonFault.{SeasonFault}
 use Rattle.match_season.specs.declared.season_output.SeasonFault.TheVariants.{WriteFault as SeasonWriteFault, Memory as SeasonMemory}
-use Rattle.player_check.specs.declared.check.CheckFault.{CheckFault}
-use Rattle.player_check.specs.declared.check.CheckFault.TheVariants.{Match as CheckMatch, WriteFault as CheckWriteFault, Memory as CheckMemory}
+use Rattle.player_commands.specs.declared.check.CheckFault.{CheckFault}
+use Rattle.player_commands.specs.declared.check.CheckFault.TheVariants.{Match as CheckMatch, WriteFault as CheckWriteFault, Memory as CheckMemory}
 use Rattle.desk_calls.specs.declared.call.Refusal.TheVariants.{BadId}
 use Rattle.player_commands.specs.declared.fault.CommandFault.{CommandFault}
 use Rattle.player_commands.specs.declared.fault.CommandFault.TheVariants.{BadId as CommandBadId, NoAnswer as CommandNoAnswer, NotSent as CommandNotSent, WriteFault as CommandWriteFault, Memory as CommandMemory}

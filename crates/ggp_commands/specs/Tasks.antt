@@ -20,8 +20,8 @@ use Rattle.command_faults.specs.declared.files.NamedFile.TheVariants.{Input, Log
 use Rattle.whole_streams.specs.Streams.{AppendsPart}
 use Rattle.whole_streams.specs.Streams.{InputFails}
 use Rattle.whole_streams.specs.declared.whole.InputFault.{InputFault}
-use Rattle.player_check.specs.Checks.{EndsEarly, WritesCheck}
-use Rattle.player_check.specs.declared.check.CheckFault.{CheckFault}
+use Rattle.player_commands.specs.Checks.{EndsEarly, WritesCheck}
+use Rattle.player_commands.specs.declared.check.CheckFault.{CheckFault}
 use Rattle.player_commands.specs.declared.fault.CommandFault.{CommandFault}
 use Rattle.player_commands.specs.Lines.{InfoFails, TellsAnswers, aborted_lines, info_line}
 use Rattle.ggp_commands.specs.Faults.{check_fault, command_fault, task_fault}

@@ -9,8 +9,7 @@ use command_line::{ArgumentFault, MatchTask};
 use desk_calls::Refusal;
 use match_play::MatchFault;
 use match_season::SeasonFault;
-use player_check::CheckFault;
-use player_commands::CommandFault;
+use player_commands::{CheckFault, CommandFault};
 use process_streams::RecordsFault;
 
 /// The exit status for an error. With `--why` it is 1 if the answer is no, and 2 if there is no answer.

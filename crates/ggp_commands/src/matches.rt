@@ -4,8 +4,8 @@ ghost use denote.Param.Send.{IsSend, IsSync};
 ghost use Rattle.ggp_commands.specs.Faults.{check_fault};
 ghost use Rattle.ggp_commands.specs.Runs.{WritesRun, WritesRunUpTo};
 ghost use Rattle.match_log.specs.LoggedPlayers.{is_logged_reached, logged_handed};
-ghost use Rattle.player_check.specs.Checks.{EndsEarly, WritesCheck};
-ghost use Rattle.player_check.specs.declared.check.CheckFault.{CheckFault};
+ghost use Rattle.player_commands.specs.Checks.{EndsEarly, WritesCheck};
+ghost use Rattle.player_commands.specs.declared.check.CheckFault.{CheckFault};
 ghost use Rattle.match_plans.specs.declared.plan.MatchPlan.{MatchPlan};
 ghost use Rattle.command_faults.specs.Faults.{IsFileFault};
 ghost use Rattle.command_faults.specs.declared.fault.Fault.TheVariants.{WriteFault};
@@ -18,7 +18,7 @@ use crate::descriptors::allowed_form;
 use crate::explaining::{Subject, explain};
 use crate::faults::{check_fault, match_fault, season_fault};
 use crate::log_target::LogTarget;
-use crate::records_file::{mend_records, records_file, tell_state};
+use crate::records_file::{last_partial, mend_records, records_file, tell_state};
 use crate::surroundings::{Surroundings, Terminals};
 use command_faults::{Fault, MaxBytes, NamedFile, file_text};
 use command_line::{MatchTask, RunPlan, SeasonPlan, VERSION};
@@ -32,7 +32,7 @@ use match_play::{PlayableGame, ended_match, prepared_match};
 use match_season::{ReportsMissing, SeasonSurroundings, play_season};
 use matches_to_play::{plans_of, undone};
 use network_players::Explains;
-use player_check::check_player;
+use player_commands::check_player;
 use process_streams::{LockedFiles, RecordsState};
 use std::alloc::Global;
 use std::fmt::Write as _;
@@ -221,15 +221,12 @@ where
     let Surroundings { rt, alloc, .. } = *around;
     let mut errors = ReportStream::new(rt, &console.notices);
     let mut file = records_file(rt, alloc, path, &mut errors)?;
-    mend_records(
-        &mut file,
-        rt,
-        alloc,
-        game.game,
-        form.has_history,
-        path,
-        &mut errors,
-    )?;
+    let first = if form.has_history {
+        last_partial(rt, alloc, game.game, path, &mut errors)?
+    } else {
+        None
+    };
+    mend_records(&mut file, alloc, first, path, &mut errors)?;
     let mut file = Counted::new(file);
     let left = undone(rt, alloc, game.game, Some(path), plans, &mut errors)?;
     let played = play_plans(around, form, game, &left, &mut file, console);

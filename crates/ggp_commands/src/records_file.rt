@@ -104,7 +104,7 @@ pub fn records_file<'a, F: LockedFiles, E: Write>(
 
 /// The line number of the last record in the file, if its call log is incomplete. An earlier record with an incomplete call log is an
 /// error.
-fn last_partial<F: Files, E: Write>(
+pub fn last_partial<F: Files, E: Write>(
     files: &F,
     alloc: Global,
     game: &PackedGame,
@@ -129,23 +129,16 @@ fn last_partial<F: Files, E: Write>(
 }
 
 /// Moves the incomplete end of the file to another file, and reports this. The end is a last line without a line feed or,
-/// if records have call logs, a last record with an incomplete call log.
+/// if there is a `first` line to move, the last record with its call log.
 pub fn mend_records<F: LockedFiles, E: Write>(
     file: &mut RecordsFile<'_, F, <F as Files>::File>,
-    files: &F,
     alloc: Global,
-    game: &PackedGame,
-    has_history: bool,
+    first: Option<u64>,
     path: &str,
     errors: &mut E,
 ) -> Result<(), Fault>
     ensures fault { IfErr result (IsFileFault Records) }
 {
-    let first = if has_history {
-        last_partial(files, alloc, game, path, errors)?
-    } else {
-        None
-    };
     match file.mend(alloc, first) {
         Ok(None) => Ok(()),
         Ok(Some(torn)) => {

@@ -116,13 +116,12 @@ fn desk_files<'a, F: LockedFiles, E: Write>(
     files: &'a F,
     alloc: Global,
     plan: &ServicePlan<'a>,
-    games: &[PackedGame],
     errors: &mut E,
 ) -> Result<DeskFiles<'a, F>, Fault> {
     let mut records = None;
-    if let (Some(path), Some(game)) = (plan.records, games.first()) {
+    if let Some(path) = plan.records {
         let mut file = records_file(files, alloc, path, errors)?;
-        mend_records(&mut file, files, alloc, game, false, path, errors)?;
+        mend_records(&mut file, alloc, None, path, errors)?;
         records = Some(file);
     }
     let history = match plan.history {
@@ -217,7 +216,7 @@ where
         alloc,
         connections,
     } = *around;
-    let files = desk_files(rt, alloc, plan, &games, errors)?;
+    let files = desk_files(rt, alloc, plan, errors)?;
     tell_clients(connections.listener, alloc, plan.address, writer)?;
     let closed = serve_desk(around, games, plan.lines, reader)?;
     keep(alloc, &closed, files, plan.records, errors)

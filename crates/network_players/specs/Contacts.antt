@@ -83,7 +83,7 @@ fault_so_far before last = last
 -- for some seconds. If the player accepts no connection or its host has no address, and `is_patient` is true, another try follows. A try that had no time left does
 -- not count, so the error is that of the earlier try.
 abbrev pub after_try : ContactFault → Bool → ContactFault → AfterTry
-after_try before is_patient (faults.Shortage shortage) = Waits shortage
+after_try before is_patient (faults.Shortage shortage) = Waits
 after_try before is_patient faults.NoConnection = if is_patient then Tries else Ends faults.NoConnection
 after_try before is_patient faults.NoAddress = if is_patient then Tries else Ends faults.NoAddress
 after_try before is_patient (faults.Late received) = Ends before
@@ -99,11 +99,6 @@ longest_pause fault = 50000000
 abbrev pub is_cut_by_stop : Bool → ContactFault → Bool
 is_cut_by_stop true (faults.Exchange exchange_faults.WriteFault Unsent) = true
 is_cut_by_stop has_stalled fault = false
-
--- if a message had to wait for a resource that the referee lacked, and then had no time left, the error names this resource
-abbrev pub fault_after : Option Shortage → ContactFault → ContactFault
-fault_after (Some shortage) (faults.Late received) = faults.Shortage shortage
-fault_after waited fault = fault
 
 abbrev pub exchange_fault : Received → WireFault → ContactFault
 exchange_fault received exchange_faults.Memory = faults.Shortage Memory

@@ -2,7 +2,7 @@
 ghost use Rattle.std.specs.Prelude.{◌≡◌, ◌-◌};
 ghost use Rattle.std.specs.Duration.{as_nanos};
 ghost use Rattle.std.specs.IoError.{error_kind, raw_os_error};
-ghost use Rattle.network_players.specs.Contacts.{address_fault, after_try, connect_fault, fault_at_end, fault_at_refusal, fault_so_far, fault_after, is_cut_by_stop, is_of_network, longest_pause, outcome_of};
+ghost use Rattle.network_players.specs.Contacts.{address_fault, after_try, connect_fault, fault_at_end, fault_at_refusal, fault_so_far, is_cut_by_stop, is_of_network, longest_pause, outcome_of};
 
 use crate::deadline::{Deadline, LATE, TimedStream, doubled, is_gone, try_limit};
 use crate::lookup::{Lookup, Resolves};
@@ -90,10 +90,13 @@ const PAUSE_MILLIS: u64 = 50;
 /// The longest pause after a lookup that found no address, in milliseconds. Longer pauses spare the name server.
 const LOOKUP_PAUSE_MILLIS: u64 = 500;
 
-/// The largest number of tries to connect for one message. With their pauses they take longer than any clock allows.
-const MAX_CONNECTS: u32 = 2_000_000;
+/// The largest number of tries to connect for one message. With their pauses they take longer than any clock and a wait for the referee.
+const MAX_CONNECTS: u32 = 4_000_000;
 
-const _: () = prove!(MAX_CONNECTS as u64 * PAUSE_MILLIS > MAX_CLOCK as u64 * 1_000);
+const _: () = prove!(MAX_CONNECTS as u64 * PAUSE_MILLIS > 2 * MAX_CLOCK as u64 * 1_000);
+
+/// How often a message is sent at most, if the player closes the connection each time because the program was not running.
+const MAX_SENDS: u32 = 10;
 
 /// The error of a message that could not be sent again after the program had not been running.
 const STOPPED: ContactFault = ContactFault::Shortage(Shortage::Processor);
@@ -266,17 +269,6 @@ fn fault_so_far(before: ContactFault, last: ContactFault) -> ContactFault
     }
 }
 
-/// The error of a message. If the message had to wait because the referee lacked a resource (`waited`), and then had no
-/// time left, the error names this resource.
-fn fault_after(waited: Option<Shortage>, fault: ContactFault) -> ContactFault
-    ensures { result ≡ fault_after waited fault }
-{
-    match (waited, fault) {
-        (Some(shortage), ContactFault::Late(_)) => ContactFault::Shortage(shortage),
-        (_, fault) => fault,
-    }
-}
-
 /// The outcome of an exchange, from the halt of the last read or write, if there was one, and from how far the exchange
 /// got.
 fn outcome_of(
@@ -367,7 +359,7 @@ fn try_each<N: Routes + Clock>(
 }
 
 /// Connects to the first of the addresses that accepts a connection, within the time that is left. Addresses that did not
-/// answer are tried again.
+/// answer are tried again, unless the referee lacked a resource for another one.
 fn connect_once<N: Routes + Clock>(
     net: &N,
     lookup: &mut Lookup,
@@ -376,7 +368,7 @@ fn connect_once<N: Routes + Clock>(
     let mut silent = 0;
     for _ in 0..MAX_CONNECTS {
         let tried = try_each(net, lookup, deadline, &mut silent);
-        if silent == 0 {
+        if silent == 0 || matches!(tried, Err(ContactFault::Shortage(_))) {
             return tried;
         }
     }
@@ -417,9 +409,9 @@ fn pause<N: Clock>(
 
 /// What follows a try to connect that failed.
 enum AfterTry {
-    /// Another try. The referee lacked this resource, so a player that accepts no connection is tried for some more
+    /// Another try, because the referee lacked a resource. A player that accepts no connection is tried for some more
     /// seconds.
-    Waits(Shortage),
+    Waits,
     /// Another try.
     Tries,
     /// No other try: the message has this error.
@@ -432,7 +424,7 @@ fn after_try(fault: ContactFault, before: ContactFault, is_patient: bool) -> Aft
     ensures { result ≡ after_try before is_patient fault }
 {
     match fault {
-        ContactFault::Shortage(shortage) => AfterTry::Waits(shortage),
+        ContactFault::Shortage(_) => AfterTry::Waits,
         ContactFault::NoConnection | ContactFault::NoAddress if is_patient => AfterTry::Tries,
         ContactFault::Late(_) => AfterTry::Ends(before),
         _ => AfterTry::Ends(fault),
@@ -446,22 +438,43 @@ fn patience_from(left: Duration) -> Duration
     left.saturating_sub(Duration::from_secs(RETRY_SECONDS))
 }
 
-/// Connects to the player within the time that is left. Tries again while the referee lacks a resource, and stores this
-/// resource in `waited`. If the player accepts no connection or its host has no address, tries again for some seconds,
-/// counted from the start of the message, from such a lack, or from a try during which the program was not running.
+/// Pauses after a try for which the referee lacked a resource. The try and the pause cost the message nothing of the time that it had
+/// before, `left`. They are taken from `spare`, the time for which the message may still wait for the referee. If no such time is left,
+/// returns the error of the try.
+fn wait_for_resource<N: Clock>(
+    net: &N,
+    deadline: &mut Deadline,
+    fault: ContactFault,
+    left: Duration,
+    spare: &mut Duration,
+) -> Result<(), ContactFault>
+    ensures { deadline.new.left ≡ left }
+{
+    let spent = left.saturating_sub(deadline.left);
+    deadline.left = spare.saturating_sub(spent);
+    let paused = pause(net, deadline, fault, Duration::from_millis(PAUSE_MILLIS));
+    *spare = deadline.left;
+    deadline.left = left;
+    paused
+}
+
+/// Connects to the player within the time that is left. Tries again while the referee lacks a resource, for as long as the message has time
+/// at first; this costs the message none of its time. If the player accepts no connection or its host has no address, tries again for some
+/// seconds, counted from the start of the message, from such a lack, or from a try during which the program was not running.
 fn connect<N: Resolves + Clock>(
     net: &N,
     alloc: Global,
     player: &PlayerAddress<'_>,
     lookup: &mut Lookup,
     deadline: &mut Deadline,
-    waited: &mut Option<Shortage>,
 ) -> Result<N::Stream, ContactFault> {
+    let mut spare = deadline.left;
     let mut patient_to = patience_from(deadline.left);
     let mut before = LATE;
     let mut limit = Duration::from_millis(PAUSE_MILLIS);
     for _ in 0..MAX_CONNECTS {
         deadline.has_stalled = false;
+        let left = deadline.left;
         let connected = match lookup.look_up(net, alloc, player, deadline) {
             Ok(()) => connect_once(net, lookup, deadline),
             Err(fault) => Err(fault),
@@ -474,16 +487,17 @@ fn connect<N: Resolves + Clock>(
             patient_to = patience_from(deadline.left);
         }
         match after_try(fault, before, deadline.left > patient_to) {
-            AfterTry::Waits(shortage) => {
-                *waited = Some(shortage);
-                patient_to = patience_from(deadline.left);
+            AfterTry::Waits => {
+                wait_for_resource(net, deadline, fault, left, &mut spare)?;
+                patient_to = patience_from(left);
             }
-            AfterTry::Tries => {}
+            AfterTry::Tries => {
+                pause(net, deadline, fault, limit)?;
+                before = fault;
+            }
             AfterTry::Ends(fault) => return Err(fault),
         }
-        pause(net, deadline, fault, limit)?;
         limit = doubled(limit, longest_pause(fault));
-        before = fault;
     }
     Err(before)
 }
@@ -524,8 +538,9 @@ fn is_cut_by_stop(fault: ContactFault, has_stalled: bool) -> bool
 }
 
 /// Sends a player a message and returns the body of its answer. The lookup of the host, connecting, writing and reading
-/// may take `seconds` seconds in total. The error says why there is no answer. If the player closes the connection because
-/// the program was not running, the message is sent once more.
+/// may take `seconds` seconds in total. The error says why there is no answer. Two waits cost the message none of this time: one for
+/// resources that the referee lacks, of at most `seconds` seconds, and one while the program is not running. If the player closes the
+/// connection because of such a stop, the message is sent again, with its whole time.
 pub fn contact_found<N: Resolves + Clock>(
     net: &N,
     alloc: Global,
@@ -535,20 +550,16 @@ pub fn contact_found<N: Resolves + Clock>(
     message: &SharedText<'_>,
 ) -> Result<Text, ContactFault> {
     let mut deadline = Deadline::within(net, seconds)?;
-    let mut waited = None;
-    for _ in 0..MAX_CONNECTS {
-        let reached = match connect(net, alloc, player, lookup, &mut deadline, &mut waited) {
+    let whole = deadline.left;
+    for _ in 0..MAX_SENDS {
+        let reached = match connect(net, alloc, player, lookup, &mut deadline) {
             Ok(stream) => exchange_over(net, alloc, player, &mut deadline, stream, message),
             Err(fault) => Err(fault),
         };
         match reached {
             Ok(text) => return Ok(text),
-            Err(fault) if is_cut_by_stop(fault, deadline.has_stalled) => {
-                waited = Some(Shortage::Processor);
-            }
-            Err(fault) => {
-                return Err(blamed(net, lookup.addresses(), fault_after(waited, fault)));
-            }
+            Err(fault) if is_cut_by_stop(fault, deadline.has_stalled) => deadline.left = whole,
+            Err(fault) => return Err(blamed(net, lookup.addresses(), fault)),
         }
         let pause_limit = Duration::from_millis(PAUSE_MILLIS);
         pause(net, &mut deadline, STOPPED, pause_limit)?;

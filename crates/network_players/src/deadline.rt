@@ -92,7 +92,7 @@ const NO_CLOCK: ContactFault = ContactFault::Shortage(Shortage::Clock);
 #[derive(Clone, Copy)]
 pub struct Deadline {
     /// When the clock was last read. `left` is the time that was left then.
-    seen: Instant,
+    pub(crate) seen: Instant,
     pub(crate) left: Duration,
     /// Whether the program was not running for a part of the last try to connect, or since then.
     pub(crate) has_stalled: bool,

@@ -15,7 +15,7 @@ use std::net::{Net, SocketAddr, TcpListener, TcpStream};
 use std::sync::{Arc, OnceLock};
 use std::thread;
 use std::thread::Threads;
-use std::time::{Clock, Duration};
+use std::time::{Clock, Duration, Instant};
 
 /// The first pause between two checks whether a lookup has ended, in milliseconds. Each further pause is twice as long.
 const FIRST_PAUSE_MILLIS: u64 = 1;
@@ -29,8 +29,8 @@ const MAX_CHECKS: u32 = 2_000_000;
 
 const _: () = prove!((MAX_CHECKS as u64 - 10) * LONGEST_PAUSE_MILLIS > MAX_CLOCK as u64 * 1_000);
 
-/// The error of a message whose lookup could not start, because as many lookups as the descriptors allow are under way.
-const TOO_MANY: ContactFault = ContactFault::Shortage(Shortage::Descriptors);
+/// After this many seconds most resolvers have given up. A further message then looks up its host anew.
+const LONG_SECONDS: u64 = 30;
 
 /// The result of a lookup: the addresses, none if the host has no address, or what the referee lacked.
 pub type Found = Result<Vec<SocketAddr>, Shortage>;
@@ -41,6 +41,7 @@ pub struct HostQuery {
     alloc: Global,
     host: String,
     port: u16,
+    begun: Instant,
     found: OnceLock<Found>,
 }
 
@@ -60,6 +61,11 @@ impl HostQuery {
         ensures { IsTrue result ↔ (string_bytes self.now.host ≡ string_bytes host.now.host) }
     {
         self.host == host.host
+    }
+
+    /// Whether the other lookup began so long before this one that it may never end.
+    pub(crate) fn is_long_after(&self, other: &HostQuery) -> bool {
+        self.begun - other.begun > Duration::from_secs(LONG_SECONDS)
     }
 
     /// The result of the lookup, or `None` if it has not ended yet.
@@ -117,12 +123,17 @@ pub struct Lookup {
 }
 
 /// A lookup that has not started, for the addresses of a player's host.
-fn query_of(alloc: Global, player: &PlayerAddress<'_>) -> Result<Arc<HostQuery>, AllocError> {
+fn query_of(
+    alloc: Global,
+    player: &PlayerAddress<'_>,
+    begun: Instant,
+) -> Result<Arc<HostQuery>, AllocError> {
     let host = String::from_str(alloc, player.host)?;
     let query = HostQuery {
         alloc,
         host,
         port: player.port,
+        begun,
         found: OnceLock::new(),
     };
     Ok(Arc::new(alloc, query)?)
@@ -134,8 +145,9 @@ fn begun<N: Resolves>(
     net: &N,
     alloc: Global,
     player: &PlayerAddress<'_>,
+    now: Instant,
 ) -> Result<Arc<HostQuery>, ContactFault> {
-    let Ok(query) = query_of(alloc, player) else {
+    let Ok(query) = query_of(alloc, player, now) else {
         return Err(ContactFault::Shortage(Shortage::Memory));
     };
     if is_address(player.host) {
@@ -146,34 +158,6 @@ fn begun<N: Resolves>(
         Ok(begun) => Ok(begun),
         Err(shortage) => Err(ContactFault::Shortage(shortage)),
     }
-}
-
-/// Starts a lookup as `begun` does. If the maximum number of lookups is under way, this waits until one of them ends, but no longer than the
-/// time that the message has left. Once the lookup starts, the message has this time again, because the player cannot help the wait.
-fn begun_in_time<N: Resolves + Clock>(
-    net: &N,
-    alloc: Global,
-    player: &PlayerAddress<'_>,
-    deadline: &mut Deadline,
-) -> Result<Arc<HostQuery>, ContactFault> {
-    let left_at_first = deadline.left;
-    for _ in 0..MAX_CHECKS {
-        match begun(net, alloc, player) {
-            Err(ContactFault::Shortage(Shortage::Descriptors)) => {}
-            begun => {
-                deadline.left = left_at_first;
-                return begun;
-            }
-        }
-        let Ok(left) = deadline.after(net, Duration::ZERO) else {
-            break;
-        };
-        let pause = left.min(Duration::from_millis(LONGEST_PAUSE_MILLIS));
-        thread::sleep(net, pause);
-        // The next step finds out whether time is left.
-        let _ = deadline.after(net, pause);
-    }
-    Err(TOO_MANY)
 }
 
 /// The time that is requested for the start of the lookup. An address needs no resolver: if its lookup takes time, the referee was not running.
@@ -262,7 +246,7 @@ impl Lookup {
         let lack = lack_of_network(net);
         let query = match self.query.take() {
             Some(query) => query,
-            None => begun_in_time(net, alloc, player, deadline)?,
+            None => begun(net, alloc, player, deadline.seen)?,
         };
         let found = match wait_for(net, alloc, player, &query, asked, deadline) {
             Ok(found) => found,

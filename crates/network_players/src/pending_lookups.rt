@@ -25,7 +25,7 @@ pub fn lookup_descriptors(descriptors: u64) -> u64
     EACH * (descriptors / (4 * EACH)).clamp(1, MOST)
 }
 
-/// The lookups that have not ended: at most one for each host.
+/// The lookups that have not ended: at most one for each host, and one more for each lookup of it that seems to have no end.
 #[derive(Drop)]
 pub struct PendingLookups {
     queries: Vec<Arc<HostQuery>>,
@@ -45,7 +45,7 @@ impl PendingLookups {
     }
 
     /// A lookup of the same host that has not ended, if there is one. Otherwise this adds the query, which the caller must
-    /// start. The error is what the referee lacks for another lookup.
+    /// start. A lookup that began long ago is joined only if no other may begin. The error is what the referee lacks for another lookup.
     pub(crate) fn join(
         &mut self,
         query: &Arc<HostQuery>,
@@ -53,15 +53,16 @@ impl PendingLookups {
         ensures same { IfOk result (λ joined. IfSome joined (λ other. string_bytes (arc_value other).host ≡ string_bytes (arc_value query.now).host)) }
     {
         self.queries.retain(|other| other.found().is_none());
+        let is_full = self.queries.len() >= self.most;
         for other in &self.queries {
-            if other.is_of(query) {
+            if other.is_of(query) && (is_full || !query.is_long_after(other)) {
                 return match Arc::try_clone(other) {
                     Ok(other) => Ok(Some(other)),
                     Err(_) => Err(Shortage::Memory),
                 };
             }
         }
-        if self.queries.len() >= self.most {
+        if is_full {
             return Err(Shortage::Descriptors);
         }
         let Ok(added) = Arc::try_clone(query) else {

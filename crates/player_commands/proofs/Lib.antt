@@ -1,1 +1,5 @@
 mod ToldPlayers
+mod Places
+mod TableRows
+mod PlayedRoles
+mod RoleTables

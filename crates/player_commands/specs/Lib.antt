@@ -1,2 +1,9 @@
 pub mod Faults
 pub mod Lines
+pub mod Verdicts
+pub mod Answers
+pub mod RoleTurns
+pub mod Rows
+pub mod Seats
+pub mod Tables
+pub mod Checks

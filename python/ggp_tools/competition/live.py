@@ -93,6 +93,8 @@ class Delay:
         # Other values, each with the time since which it is unchanged.
         self.values: dict[str, tuple[object, float]] = {}
         self.is_new = True
+        # The matches of plans that are not shown yet. Their files are remembered from now on.
+        self.coming: dict[str, Match] = {}
 
     def now(self) -> float:
         """Returns the time of day that the pages show."""
@@ -355,7 +357,7 @@ class Reader:
         # logs had these sizes.
         journal = extent_at(self.plan.folder.journal, self.delay.seconds > 0)
         shown = self.delay.snapshot(self.read_open_files(), journal, is_locked(self.plan.folder.path))
-        gone = self.update_open(shown.matches)
+        gone = self.update_open({name: files for name, files in shown.matches.items() if name in self.known})
         while rows := self.journal.added(shown.journal)[0]:
             for row in rows:
                 self.take_row(row)
@@ -384,14 +386,18 @@ class Reader:
             self.unlisted[folder.name] = why.strerror
             return None
 
+    def remembered(self) -> dict[str, Match]:
+        """Returns the matches whose files are read: those that the pages show, and those that they will show after the delay."""
+        return {**self.known, **self.delay.coming} if self.delay.coming else self.known
+
     def read_open_files(self) -> dict[str, OpenFiles]:
         """Returns the open matches. If their directory can't be read now, returns those of the last update."""
-        names = self.listed(self.plan.folder.open)
+        names, known = self.listed(self.plan.folder.open), self.remembered()
         if names is not None:
-            matches = {name: files for name in self.known if name in names and (files := self.open_files_of(name))}
+            matches = {name: files for name in known if name in names and (files := self.open_files_of(name))}
             # A match that still sends INFO is not shown: it would reveal that a player is silent, perhaps even in an open turn of another match.
-            playing = {player for name, files in matches.items() if files.stage != ASKING for player in self.known[name].players}
-            matches = {name: files for name, files in matches.items() if files.stage != ASKING or playing.isdisjoint(self.known[name].players)}
+            playing = {player for name, files in matches.items() if files.stage != ASKING for player in known[name].players}
+            matches = {name: files for name, files in matches.items() if files.stage != ASKING or playing.isdisjoint(known[name].players)}
             # Snapshots share unchanged parts.
             matches = {name: self.open_files[name] if self.open_files.get(name) == files else files for name, files in matches.items()}
             self.open_files = matches if matches != self.open_files else self.open_files
@@ -521,7 +527,7 @@ class Reader:
         for name in (self.results.keys() | self.faults.keys()) - there:
             if self.delay.has_passed(name, NOWHERE):
                 self.forget(name)
-        self.unread = deque(name for name in self.known if name in there and self.is_news(name))
+        self.unread = deque(name for name in self.remembered() if name in there and self.is_news(name) and name in self.known)
         self.delay.is_new = False
         ended = time.monotonic()
         self.next_listing = ended + SHARE * (ended - began)
@@ -529,8 +535,8 @@ class Reader:
     def is_news(self, name: str) -> bool:
         """Returns whether a record must be read, because it is new or was replaced."""
         files = self.files_of(name)
-        # The times of files count only in the first update.
-        age = time.time() - files[0][2] / 1e9 if self.delay.is_new else 0.0
+        # The times of files count only in the first update. They are in the future if the clock was set back.
+        age = max(0.0, time.time() - files[0][2] / 1e9) if self.delay.is_new else 0.0
         return self.delay.has_passed(name, files, age) and self.identities.get(name) != files
 
     def files_of(self, name: str) -> tuple[Identity, Identity]:
@@ -628,4 +634,4 @@ class Reader:
 
     def waiting(self) -> list[Match]:
         """Returns the matches that are neither open nor over, in the schedule's order, including those that were given up."""
-        return [match for match in self.plan.matches if match.id not in self.results and match.id not in self.open and not match.withdrawn]
+        return [match for match in self.plan.matches if match.id not in self.results and match.id not in self.open and match.counts()]

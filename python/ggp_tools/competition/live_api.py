@@ -36,6 +36,8 @@ def state_keys(reader: Reader, match: Match) -> Keys:
     if live_match := reader.open.get(match.id):
         status, turns = status_of(live_match), len(live_match.board.position.moves)
         return {"state": "open", "stage": stage_of(live_match), "turns": turns, "since": status.since, "awaited": status.players}
+    if not match.counts():
+        return {"state": "not played", "why": match.why_not()}
     why = reader.faults.get(match.id) or reader.given_up.get(match.id)
     return {"state": "given up", "why": why} if why else {"state": "waiting"}
 
@@ -98,9 +100,10 @@ def news(reader: Reader, old: Keys, new: Keys) -> Keys | None:
 
 
 def metrics(reader: Reader, table: Table) -> bytes:
-    lost = sum(name not in reader.results and name not in reader.open for name in reader.given_up.keys() | reader.faults.keys())
-    counts = {"open": len(reader.open), "over": len(reader.results), "given up": lost}
-    counts["waiting"] = len(reader.known) - sum(counts.values())
+    waiting = {match.id for match in reader.waiting()}
+    counts = {"open": len(reader.open), "over": len(reader.results), "given up": len(waiting & (reader.given_up.keys() | reader.faults.keys()))}
+    counts["waiting"] = len(waiting) - counts["given up"]
+    counts["not played"] = len(reader.known) - sum(counts.values())
     numbers = {"play_running": {"": int(reader.is_running)}, "records_unread": {"": len(reader.unread)}}
     numbers["matches"] = {f'{{state="{state}"}}': count for state, count in counts.items()}
     for name in ("matches", "moves", "replaced"):

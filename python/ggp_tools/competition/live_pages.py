@@ -163,7 +163,7 @@ def open_match_parts(live_match: LiveMatch, state: "Markup", head: Part) -> Page
     ]
 
 
-def waiting_match_parts(fault: str, given_up: str, head: Part) -> PageParts:
-    """Returns the page of a match that is neither open nor over."""
-    text = f"Its record does not count: {fault}" if fault else f"It was given up: {given_up}." if given_up else "It has not begun."
+def waiting_match_parts(fault: str, given_up: str, why_not: str, head: Part) -> PageParts:
+    """Returns the page of a match that is neither open nor over. It says why the match is not played, if it is not."""
+    text = f"It is not played: {why_not}." if why_not else f"Its record does not count: {fault}" if fault else f"It was given up: {given_up}." if given_up else "It has not begun."
     return [head, live_part("now", "waiting", text=text)]

@@ -250,6 +250,7 @@ class LiveSite:
                 page.is_final = True
             self.pages = OrderedDict()
             self.begin(plan)
+        self.delay.coming = {match.id: match for _, plan in self.plans if isinstance(plan, Plan) for match in plan.matches}
 
     def count_results(self) -> None:
         """Computes the tables if results have changed, but not too often."""
@@ -326,7 +327,7 @@ class LiveSite:
         match, live_match = self.reader.known[name], self.reader.open.get(name)
         head = live_pages.match_head(match, self.plan.competition, self.plan.roles(match.game))
         if not live_match:
-            return live_pages.waiting_match_parts(self.reader.faults.get(name, ""), self.reader.given_up.get(name, ""), head)
+            return live_pages.waiting_match_parts(self.reader.faults.get(name, ""), self.reader.given_up.get(name, ""), match.why_not(), head)
         return live_pages.open_match_parts(live_match, self.state_of(live_match), head)
 
     def board_items(self) -> list[tuple[str, str]]:
@@ -416,4 +417,5 @@ class LiveSite:
         idle = [path for path, page in self.pages.items() if page.is_idle(now)]
         rest = [path for path, page in self.pages.items() if not page.viewers and path not in idle]
         for path in [*idle, *rest[: max(0, len(self.pages) - len(idle) - MOST_PAGES)]]:
-            del self.pages[path]
+            # If somebody has just begun to watch it, the browser must load it again.
+            self.pages.pop(path).is_final = True

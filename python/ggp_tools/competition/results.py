@@ -112,7 +112,7 @@ def winner_words(result: Result) -> str:
 
 def again_words(match: Match) -> str:
     """Says why a match does not count any more."""
-    return f"{match.id} does not count: {match.withdrawn or f'{match.again} replaces it: {match.reason}'}"
+    return f"{match.id} does not count: {match.why_not()}"
 
 
 def remarks(result: Result) -> Iterator[str]:

@@ -38,6 +38,10 @@ class Match:
     def counts(self) -> bool:
         return not self.again and not self.withdrawn
 
+    def why_not(self) -> str:
+        """Says why the match does not count. The text is empty if it counts."""
+        return self.withdrawn or self.again and f"{self.again} replaces it: {self.reason}"
+
     def line(self) -> str:
         return f"{self.id}\t{self.game}\t{self.start}\t{self.play}\t{' '.join(self.players)}\n"
 

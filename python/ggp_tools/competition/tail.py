@@ -5,9 +5,9 @@ from collections.abc import Callable
 from typing import BinaryIO, Generic, NamedTuple, TypeVar
 
 from ggp_tools.competition.files import opened_file
-from ggp_tools.match_log import whole_lines
+from ggp_tools.match_log import LONGEST_LINE
 
-# The most bytes that are read at a time, so that a long log does not delay the others.
+# At most this many bytes are read at a time, or one line or a part of a line that is too long, so that a long log does not delay the others.
 MOST_READ = 1 << 20
 # The first bytes show whether another file has replaced this one: in the log of a match, they include the time at which the match began.
 HEAD = 256
@@ -35,8 +35,8 @@ class Tail(Generic[T]):
     def __init__(self, path: str, parse: Callable[[bytes], T | None], later: str = "") -> None:
         self.path, self.parse, self.later = path, parse, later
         self.place, self.number, self.head = 0, None, b""
-        # Whether some lines of the extent are still unread.
-        self.is_behind = False
+        # Whether some lines of the extent are still unread, and whether only the beginning of a line has been read, because the line is too long.
+        self.is_behind = self.is_within = False
 
     def added(self, extent: Extent) -> tuple[list[T], bool]:
         """Returns the new lines of this extent of the file, and whether it is a different file than before. There are no lines if the file can't be
@@ -51,7 +51,8 @@ class Tail(Generic[T]):
                     self.is_behind = True
                     return [], False
                 is_other = self.number not in (None, number) or size < self.place or not head.startswith(self.head)
-                self.place, self.number, self.head = 0 if is_other else self.place, number, head
+                self.place, self.is_within = (0, False) if is_other else (self.place, self.is_within)
+                self.number, self.head = number, head
                 return self.read_on(file, extent.size), is_other
         except OSError:
             self.is_behind = self.place < extent.size
@@ -59,12 +60,15 @@ class Tail(Generic[T]):
 
     def read_on(self, file: BinaryIO, until: int) -> list[T]:
         values, begin, self.is_behind = [], file.seek(self.place), False
-        for line in whole_lines(file):
-            if file.tell() > until:
+        while line := file.readline(LONGEST_LINE):
+            is_end = line.endswith(b"\n")
+            if file.tell() > until or not is_end and len(line) < LONGEST_LINE:
                 break
             self.place = file.tell()
-            if (value := self.parse(line)) is not None:
+            # Lines that are too long are left out.
+            if is_end and not self.is_within and (value := self.parse(line)) is not None:
                 values.append(value)
+            self.is_within = not is_end
             if self.place - begin >= MOST_READ:
                 self.is_behind = True
                 break

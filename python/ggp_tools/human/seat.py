@@ -1,7 +1,6 @@
 """Plays one match at a time for a person: answers the referee's messages with the person's moves."""
 
 import contextlib
-import math
 import re
 import sys
 import threading
@@ -46,8 +45,8 @@ def head_of(text: str) -> tuple[str, str]:
 def members_of(text: str) -> tuple:
     """Returns the members of a message after its keyword and its match."""
     try:
-        # The rules in a message are parsed separately.
-        terms = expressions(text, math.inf, takes_bytes=True)
+        # The rules in a message are parsed separately. Only a START could be nested more deeply, and it would fill the memory.
+        terms = expressions(text, MOST_MESSAGE, takes_bytes=True)
     except Refused as why:
         raise Unread(str(why)) from None
     if len(terms) != 1:
@@ -112,12 +111,11 @@ class Seat:
         keyword, match = head_of(text)
         if (match, sender) in self.left or not self.is_referee(sender, keyword):
             return "busy"
-        is_own = match == self.match and receiver == self.receiver
         if keyword == "info":
             return "available" if self.is_free() and self.is_person_there() else "busy"
-        if keyword == "start" and (is_own or self.is_free()):
+        if keyword == "start" and self.may_start(match, receiver):
             return self.start(match, receiver, text)
-        if not is_own or len(text) > MOST_MESSAGE:
+        if not self.is_own(match, receiver) or len(text) > MOST_MESSAGE:
             return "busy"
         match keyword, members_of(text):
             case "play", (moves,):
@@ -147,6 +145,13 @@ class Seat:
                 print(f"ggp-human: {words}; if this is not your referee, restart it with --referee ADDRESS", file=sys.stderr, flush=True)
         return sender in self.referees
 
+    def is_own(self, match: str, receiver: str) -> bool:
+        return match == self.match and receiver == self.receiver
+
+    def may_start(self, match: str, receiver: str) -> bool:
+        """Returns whether a START may begin a match: no other one is being played. It may be a repeated START of the match that is being played."""
+        return self.is_own(match, receiver) or self.is_free()
+
     def is_free(self) -> bool:
         """Returns whether another match may begin, because there is no match, or its referee is lost."""
         return not self.match or time.monotonic() > self.expected
@@ -171,7 +176,8 @@ class Seat:
             return "busy"
         try:
             members = members_of(text)
-            asked = self.begin(match, receiver, *members) if len(members) == 4 else None
+            # Another START may have been read since the caller has checked this.
+            asked = self.begin(match, receiver, *members) if len(members) == 4 and self.may_start(match, receiver) else None
         finally:
             reading.release()
         if asked is None:

@@ -30,8 +30,8 @@ class CrateTables(unittest.TestCase):
     def test_a_crate_stands_above_all_that_it_stands_on(self) -> None:
         known = {"low": [], "mid": ["low"], "side": ["thiserror"], "top": ["low", "mid", "side"], "worked": ["top"]}
         self.assertEqual(layers(known), [["top"], ["mid"], ["low", "side"]])
-        text = f"Before.\n\n{LAYERS}\n    old\n\nBehind.\n"
-        self.assertEqual(with_layers(text, layers(known)), f"Before.\n\n{LAYERS}\n    top\n    mid\n    low side\n\nBehind.\n")
+        text = f"Before.\n\n{LAYERS}\n\n    old\n\nBehind.\n"
+        self.assertEqual(with_layers(text, layers(known)), f"Before.\n\n{LAYERS}\n\n    top\n    mid\n    low side\n\nBehind.\n")
 
     def test_a_text_without_the_table_stays(self) -> None:
         self.assertEqual(with_table("| Other |\n|---|\n", CRATES, [ROW]), "| Other |\n|---|\n")

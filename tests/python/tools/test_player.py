@@ -17,6 +17,7 @@ from ports import free_ports
 TOP = os.path.dirname(os.path.dirname(os.path.dirname(os.path.dirname(os.path.realpath(__file__)))))
 
 RULES = "((role red) (init p) (legal red go) (legal red (stay 1)))"
+TWO_ROLES = "((role red) (role blue) (init p) (<= (next q) (true p)) (<= (legal red go) (true p)) (legal blue late) (<= (legal blue stay) (true p)))"
 SECONDS = 600
 TRIES = 5
 
@@ -70,10 +71,13 @@ def is_there(child, port):
 
 class Answers(unittest.TestCase):
     def setUp(self):
-        self.player = player.Player(lambda moves: moves[-1])
+        self.player, self.now = player.Player(lambda moves: moves[-1]), 0.0
+        clock = unittest.mock.patch.object(player, "time", unittest.mock.Mock(monotonic=lambda: self.now))
+        clock.start()
+        self.addCleanup(clock.stop)
 
-    def answer(self, text):
-        return self.player.answer(player.read_message(text))
+    def answer(self, text, receiver="ann"):
+        return self.player.answer(player.read_message(text), receiver)
 
     def test_a_match(self):
         said = [self.answer(message) for message in ("(INFO)", f"(START m red {RULES} 1 1)", "INFO", "(PLAY m NIL)", "(STOP m (go))", "(INFO)")]
@@ -85,6 +89,37 @@ class Answers(unittest.TestCase):
         for other in "(ABORT other)", "(STOP other NIL)":
             self.assertEqual((self.answer(other), self.answer("(INFO)"), self.answer("(PLAY m NIL)")), ("done", "busy", "(stay 1)"))
         self.assertEqual((self.answer("(ABORT m)"), self.answer("(INFO)")), ("done", "available"))
+
+    def test_two_roles_of_one_match(self):
+        for receiver, role in ("ann", "red"), ("bob", "blue"):
+            self.assertEqual(self.answer(f"(START m {role} {TWO_ROLES} 1 1)", receiver), "ready")
+        self.assertEqual([self.answer("(PLAY m NIL)", receiver) for receiver in ("ann", "bob")], ["go", "stay"])
+
+    def test_messages_for_another_player_change_nothing(self):
+        self.answer(f"(START m red {TWO_ROLES} 1 1)")
+        for message in f"(START other blue {TWO_ROLES} 1 1)", "(ABORT m)", "(STOP m NIL)", f"(START m blue {TWO_ROLES} 1 1)", "(PLAY m (go stay))":
+            self.answer(message, "bob")
+            self.assertEqual((self.answer("(INFO)"), self.answer("(PLAY m NIL)")), ("busy", "go"), message)
+
+    def test_a_match_of_another_player_leaves_this_one_free(self):
+        self.answer(f"(START other blue {TWO_ROLES} 1 1)", "bob")
+        said = [self.answer(message) for message in ("(INFO)", f"(START m red {TWO_ROLES} 1 1)", "(PLAY m NIL)", "(STOP m NIL)", "(INFO)")]
+        self.assertEqual(said, ["available", "ready", "go", "done", "available"])
+
+    def test_a_match_after_one_that_got_no_stop(self):
+        for match in "lost", "m":
+            self.assertEqual(self.answer(f"(START {match} red {RULES} 1 1)"), "ready")
+        said = [self.answer(message) for message in ("(PLAY lost NIL)", "(ABORT lost)", "(PLAY m NIL)", "(STOP m NIL)", "(INFO)")]
+        self.assertEqual(said, ["busy", "done", "(stay 1)", "done", "available"])
+
+    def test_a_referee_that_sends_nothing_more(self):
+        for clocks in "20 5", "5 20":
+            for message in f"(START m red {RULES} {clocks})", "(PLAY m NIL)":
+                self.answer(message)
+                self.now += 20 + player.PATIENCE - 1
+                self.assertEqual(self.answer("(INFO)"), "busy")
+            self.now += 1
+            self.assertEqual([self.answer(message) for message in ("(INFO)", "(PLAY m (go))", "(INFO)")], ["available", "(stay 1)", "busy"])
 
     def test_capitals_count_in_the_id_alone(self):
         self.answer(f"(Start ; (x)\n M RED {RULES.upper()} 1 1)")

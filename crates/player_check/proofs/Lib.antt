@@ -1,4 +1,0 @@
-mod Places
-mod TableRows
-mod PlayedRoles
-mod RoleTables

@@ -1,5 +1,0 @@
-use Rattle.player_check.specs.Seats.{AreSeated}
-use Rattle.player_check.proofs.check.match_plan.Given as goal
-
-abbrev pub invariant-loop-place : goal.invariant-loop-place
-invariant-loop-place l = AreSeated l.plan.player l.role l.place l.players.items
