@@ -44,8 +44,8 @@ def spent() -> float:
 
 
 def cost(words: list[str], file: str) -> tuple[float, float]:
-    """Returns the processor milliseconds and the maximum MB of a command on a file. GNU time starts the command, which adds about a millisecond: a
-    process that Python starts would count Python's memory as its own."""
+    """Returns the processor milliseconds and the maximum MB of a command on a file. GNU time starts the command, which adds about a millisecond,
+    because the memory of a process that Python starts would include Python's."""
     with open(file, "rb") as given, tempfile.NamedTemporaryFile("r") as most:
         before = spent()
         subprocess.run(["/usr/bin/time", "-f", "%M", "-o", most.name, *words], stdin=given, stdout=subprocess.DEVNULL, stderr=subprocess.DEVNULL)
@@ -85,7 +85,7 @@ def reply(text: str) -> bytes:
 
 
 def request_from(stream: socket.socket) -> bytes:
-    """Returns the bytes of the request on a connection, or those that came before the connection ended."""
+    """Returns the bytes of the request on a connection, as far as they came before the connection ended."""
     heard = b""
     while True:
         top, end, body = heard.partition(b"\r\n\r\n")

@@ -14,8 +14,8 @@ HEAD = """\
 # `tools/budget --write` writes this file.
 """
 TOTALS = {"in_all": "in all", "longest_chain": "longest chain"}
-# Fitted to full checks of 27 libraries of 24 to 393 MB. The error is usually about 6%, and at most 20%. A step costs more for each type parameter of
-# its function.
+# These numbers were fitted to full checks of 27 libraries of 24 to 393 MB. The error is usually about 6%, and at most 20%. A step costs more for each
+# type parameter of its function.
 OF_A_FUNCTION, OF_A_STEP, OF_A_PARAMETER = 0.80, 0.0031, 0.00068
 # Declarations in traits cost nothing.
 DECLARED = "+decl"

@@ -11,7 +11,7 @@ PARTS = ("src", "specs", "proofs")
 
 
 def rows(text):
-    """Returns each crate in a text like crates.txt, in order, with its line and the crates that it uses."""
+    """Returns, in order, each crate in a text in the format of crates.txt, with its line and the crates that it uses."""
     result = {}
     for line in text.splitlines():
         head, colon, deps = line.partition("#")[0].partition(":")
@@ -62,7 +62,7 @@ def texts_of(name, parts=PARTS):
 
 
 def strays(folder, names, top=TOP):
-    """Returns the non-empty subdirectories of a directory that have none of these names: no tool reads them."""
+    """Returns the non-empty subdirectories of a directory whose names are not among these, so that no tool reads them."""
     with os.scandir(f"{top}/{folder}") as entries:
         others = sorted(entry.name for entry in entries if entry.is_dir() and entry.name not in names)
     return [other for other in others if any(files for _, _, files in os.walk(f"{top}/{folder}/{other}"))]
@@ -91,7 +91,8 @@ def said_of(program, made):
 
 
 def write_beside(program, ending, made):
-    """Writes next to a program what it was made from. This happens last, so that an interrupted build does not count as current."""
+    """Writes a file next to a program that says what it was made from. A build writes this file last, so that an interrupted build does not count as
+    current."""
     with open(f"{program}.{ending}.new", "w", encoding="utf-8") as file:
         file.write(said_of(program, made))
     os.replace(f"{program}.{ending}.new", f"{program}.{ending}")

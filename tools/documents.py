@@ -91,8 +91,8 @@ def contract_of(crate, name):
 
 
 def says(crate, contracts, name):
-    """Returns whether one of the contracts has a clause with this name. A name with a capital letter is that of a definition: it must occur in the
-    contracts or in the definitions of the crate."""
+    """Returns whether one of the contracts has a clause with this name. A name with a capital letter belongs to a definition, which must occur in the
+    contracts or the definitions of the crate."""
     if name[0].isupper():
         return any(re.search(rf"\b{name}\b", text) for text in [*contracts, definitions(crate)])
     return any(f"ensures {name} {{" in contract for contract in contracts)
@@ -113,7 +113,7 @@ def without_targets(cell):
 
 
 def indexed(part):
-    """Returns the crate that a part of a cell of the index names, and the part as the crate's own table has it; or None."""
+    """Returns the crate that a part of a cell of the index names, and the form of that part in the crate's own table; or None."""
     match = INDEXED.fullmatch(part)
     return (match[2], f"`{match[1]}`{match[3]}") if match else None
 
@@ -136,7 +136,7 @@ TEXT_LINK = re.compile(r"\[([^\]]*)\]\([^)\s]*\)")
 SPAN = re.compile(r"`[^`]*`")
 # A list item or a heading, which begins a paragraph.
 OPENER = re.compile(r"\s*(?:[-*] |\d+\. |#+ )")
-# The end of a sentence. The next one begins with a letter, a digit or a code span.
+# The end of a sentence. The next sentence begins with a letter, a digit or a code span.
 END = re.compile(r"(?<=[.!?])[\"')*]*\s+")
 WORD = re.compile(r"\w")
 

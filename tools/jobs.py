@@ -1,4 +1,4 @@
-"""Runs commands side by side, prints what they print, and counts the tests that passed, failed and were skipped."""
+"""Runs commands in parallel, prints their output, and counts the tests that passed, failed and were skipped."""
 import contextlib
 import os
 import re
@@ -12,14 +12,14 @@ from dataclasses import dataclass, field
 
 from crates import spell
 
-# How many lines of a failed command are printed again at the end.
+# The number of lines of a failed command that are printed again at the end.
 LAST_LINES = 20
 COUNTED = re.compile(r"\b(\d+) (passed|failed|errors?|skipped)\b")
 
 
 @dataclass
 class Job:
-    """A command, and the name that is printed before its lines. If a needed job fails, the jobs after it do not start. A needed job is not
+    """A command, and the name that is printed before its lines. If a needed job fails, the jobs after it do not start. A needed job does not count as
     a test."""
 
     name: str
@@ -47,7 +47,7 @@ def counts_in(last_line: str, is_well: bool) -> Counts:
     one test. A command whose exit status is not 0 has failed, whatever it prints."""
     numbers = {word.removesuffix("s"): int(number) for number, word in COUNTED.findall(last_line)}
     if is_well:
-        # A test that causes errors may say how many.
+        # A test may also state the number of its errors.
         numbers.pop("error", None)
     if not numbers:
         return Counts(passed=int(is_well), failed=int(not is_well))
@@ -57,8 +57,8 @@ def counts_in(last_line: str, is_well: bool) -> Counts:
 
 @dataclass
 class Jobs:
-    """The running commands. Each leads a session, so that it can be ended with everything that it started. With `ends_early`, all end when one fails.
-    `failed` has the last lines of each command that failed."""
+    """The running commands. Each command leads a session, so that it can be ended with all processes that it started. With `ends_early`, all end when
+    one fails. `failed` has the last lines of each command that failed."""
 
     ends_early: bool = False
     counts: Counts = field(default_factory=Counts)

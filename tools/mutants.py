@@ -105,7 +105,7 @@ def other_constants(value: object) -> list[object]:
 
 
 def other_calls(node: ast.Call) -> Iterator[ast.AST]:
-    """Yields a call with two neighbouring arguments swapped, with a bound of a range moved, with the opposite function, or without the call."""
+    """Yields mutants of a call: two neighbouring arguments swapped, a bound of a range moved, the opposite function, or no call."""
     name = node.func.id if isinstance(node.func, ast.Name) else getattr(node.func, "attr", "")
     for index in range(1, len(node.args)):
         if name not in SHOWN_AT_ONCE and not any(isinstance(argument, ast.Starred) for argument in node.args[index - 1 : index + 1]):

@@ -1,5 +1,5 @@
-"""Checks that Python is recent enough, and that the gate passes with the installed version of the Rattle toolchain. If not, it reports this in
-one line before anything else is done. Any Python 3 can run this file, so that an old version can report itself."""
+"""Checks that Python is recent enough, and that the gate has passed with the installed version of the Rattle toolchain. Otherwise reports this in one
+line before the tool does anything else. Any Python 3 can run this file, so that an old version can report itself."""
 import importlib.machinery
 import importlib.util
 import os
@@ -56,7 +56,7 @@ def require_toolchain():
 
 
 def load_rt():
-    """Loads the command `rt` as a module, for functions that it has no option for."""
+    """Loads the command `rt` as a module, to call functions for which the command has no option."""
     loader = importlib.machinery.SourceFileLoader("rt_command", os.path.realpath(shutil.which("rt")))
     rt = importlib.util.module_from_spec(importlib.util.spec_from_loader("rt_command", loader))
     loader.exec_module(rt)

@@ -1,4 +1,4 @@
-"""Runs pieces of work in parallel, as many as this computer can handle, and prints a line when each begins and ends, with the estimated time left."""
+"""Runs as many pieces of work in parallel as this computer can handle. Prints a line when each begins and ends, with the estimated time left."""
 import os
 import re
 import threading
@@ -23,7 +23,8 @@ def by_megabytes(names: list[str], megabytes: dict[str, int]) -> dict[str, float
 
 
 class Progress:
-    """Pieces of work, `lanes` of them in parallel. `seconds` has the expected time of each. Once one is done, only the proportions matter."""
+    """Pieces of work, `lanes` of them in parallel. `seconds` has the expected time of each. After one of them has ended, only the proportions
+    matter."""
 
     def __init__(self, seconds: dict[str, float], lanes: int) -> None:
         self.seconds, self.lanes, self.lock = seconds, lanes, threading.Lock()

@@ -13,7 +13,7 @@ from progress import Progress, by_megabytes, processors
 
 # The output of `rt ci` for a finished crate: it was proved now or before, or it is not proved.
 ENDS = re.compile(r"rt: (\w+) (proved|is kept|NOT PROVED)\b")
-# The output for each must-fail edit, and for each crate that has some.
+# The output for each must-fail edit, and for each crate with such edits.
 OF_EDITS = re.compile(r"rt: must-fail .*refused, as it must be|rt: \w+: trying its must-fail edits")
 LAST_LINES = 30
 

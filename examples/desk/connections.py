@@ -25,7 +25,7 @@ CONNECTIONS = 4
 
 
 def play_matches(address: str, ids: list[str], rules: list) -> dict[str, Status]:
-    """Plays matches one after another over one connection. Returns the status of each at its end."""
+    """Plays matches one after another over one connection. Returns the status of each match at its end."""
     players = [Player(random.Random(seed).choice) for seed, _ in enumerate(Game(rules).roles)]
     with Desk.connect(address) as desk:
         for match_id in ids:

@@ -56,7 +56,7 @@ def read(text):
 
 
 def read_message(text):
-    """Parses a message. Capitals are kept only in the id of the match, which comes after the parenthesis and the keyword."""
+    """Parses a message. Keeps capitals only in the id of the match, which follows the keyword."""
     message = read(text)[0]
     return (message[0], tokens(text)[2], *message[2:]) if isinstance(message, tuple) and len(message) > 1 else message
 
@@ -108,7 +108,7 @@ class Game:
 
     def is_derived(self, head, state, joint, known):
         """Returns whether all literals of some rule for this head are true."""
-        # Loops, because `any` and `all` would use stack for each rule.
+        # These are loops, because `any` and `all` would use stack for each rule.
         for body in self.bodies.get(head, []):
             for literal in body:
                 if not self.holds(literal, state, joint, known):
@@ -186,8 +186,8 @@ def is_waiting(stream):
 
 
 def say(text):
-    """Prints a line on standard error at once, because other players may print there too. It prints only visible characters, because anyone
-    can send a message. If the output is not read, it is dropped, and the player continues."""
+    """Prints a line on standard error at once, because other players may print there too. Because anyone can send a message, prints only visible
+    characters. If nobody reads the output, drops it."""
     seen = "".join(character if " " <= character <= "~" or character == "\n" else "?" for character in text[-MOST_SAID:])
     try:
         if sys.stderr and not is_waiting(sys.stderr):

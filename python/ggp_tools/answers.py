@@ -14,7 +14,8 @@ from ggp_tools.printable import MORE
 MOST_BYTES = 400
 # The number of games in the cache.
 MOST_GAMES = 4
-# A page lists the legal moves for at most this many illegal ones, and only if the rules have at most this many bytes: the interpreter is slow.
+# Because the interpreter is slow, a page lists the legal moves for at most MOST_TOLD illegal ones, and only if the rules have at most MOST_RULES
+# bytes.
 MOST_TOLD, MOST_RULES = 20, 1 << 20
 
 
@@ -76,7 +77,7 @@ class Illegal:
 
     def moves(self, role: int, turn: int, error: str) -> str:
         """Describes the legal moves of a turn with an illegal move, and says for which roles or in which turn that move would be legal. The text is
-        empty if this is not known, and for errors of other kinds."""
+        empty for other errors, and if the interpreter cannot compute the legal moves."""
         legal = self.legal(role, turn) if error.startswith("IL ") and error != "IL ?" else []
         if not legal:
             return ""

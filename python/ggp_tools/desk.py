@@ -20,7 +20,8 @@ WORD, TEXT = re.compile(r"[^ \r\n]+"), re.compile(r"[^\r\n]*")
 
 @dataclass(frozen=True)
 class Owe:
-    """The role owes an answer to `start`, `play`, `stop` or `abort`. `play` and `stop` have the last joint move, which is NIL before the first turn."""
+    """The role owes an answer to `start`, `play`, `stop` or `abort`. For `play` and `stop`, the message contains the last joint move, which is NIL
+    before the first turn."""
 
     round: int
     message: str
@@ -60,7 +61,7 @@ class DeskEnded(Exception):
 
 
 def word(value: str | int) -> str:
-    """Returns a value as one word of a call. Refuses a value that would not be one word."""
+    """Returns a value as one word of a call, and refuses other values."""
     if isinstance(value, int) and not 0 <= value <= MOST_NUMBER:
         raise ValueError(f"expected a number from 0 to {MOST_NUMBER}, found {value}")
     if not WORD.fullmatch(str(value)):
@@ -141,8 +142,8 @@ class Desk:
         await asyncio.to_thread(self.__exit__, *why)
 
     def reply(self, call: str) -> str:
-        """Makes the call in one row of a script, and returns the row with the reply. An exception that interrupts this method ends the desk, or the
-        connection to it."""
+        """Makes the call in one row of a script, and returns the row with the reply. If an exception interrupts this method, the desk or the
+        connection to it ends."""
         if not TEXT.fullmatch(call):
             raise ValueError(f"expected a call without line breaks, found {call!r}")
         with self.lock:
@@ -169,7 +170,7 @@ class Desk:
         return self.reply(" ".join(map(word, words)))
 
     def open(self, id_: str, players: Sequence[str], *, game: int = 0, start: int = 10, play: int = 10, strikes: int = 0) -> None:
-        """Opens a match of these players, one for each role. The clocks, in seconds, are only written to the record: the caller measures the time."""
+        """Opens a match of these players, one for each role. The clocks, in seconds, only go into the record: the caller measures the time."""
         self.make("strict", id_, game, start, play, strikes, *players)
 
     def next(self, id_: str, role: int) -> Owe | Hold | Over:

@@ -8,14 +8,14 @@ from typing import NamedTuple
 from ggp_tools.kif import DIGITS, Expression, Refused, Relation, applied, atoms, fresh, head_of, quoted, relation, starts, variables
 from ggp_tools.printable import shown
 
-# A sentence may expand into at most MOST_WAYS rules, one for each way to satisfy its `or`s. Above FEW_WAYS each `or` becomes an auxiliary
-# relation, if possible.
+# A sentence is expanded into one rule for each way to satisfy its `or`s. If there are more than FEW_WAYS, each `or` becomes an auxiliary relation if
+# possible. There may be at most MOST_WAYS.
 FEW_WAYS, MOST_WAYS = 100, 10000
 
 ARITIES = {"role": 1, "init": 1, "true": 1, "next": 1, "does": 2, "legal": 2, "goal": 2, "terminal": None}
-# The relations that define the game: their heads are written even if no body uses them.
+# The relations that define the game. The output has their rules even if no body uses them.
 GAME = ("role", "init", "next", "legal", "goal", "terminal")
-# A message about a dependence lists the relations in between, in at most this many characters.
+# A message about a dependence lists the relations between the two ends, in at most this many characters.
 MOST_OF_WAY = 400
 NO_RELATIONS = ("<=", "not", "or", "distinct", "and")
 SECRET = "belongs to GDL-II, for games with chance or hidden information; here each role sees every move"
@@ -197,8 +197,8 @@ def all_rules(sentences: Sequence[Expression], of_one: Callable = rules_of) -> l
 
 
 def refuse_dependence(asks: Mapping[Relation, Iterable[Relation]], source: Callable[[Relation, Relation], int]) -> None:
-    """Refuses dependencies that the referee refuses too: `legal`, `goal` and `terminal` may not depend on moves, nor `role` and `init` on a state or
-    moves. `source` returns the sentence in which a relation uses another."""
+    """Refuses the dependencies that the referee refuses: `legal`, `goal` and `terminal` must not depend on moves, and `role` and `init` must not
+    depend on a state or moves. `source` returns the sentence in which a relation uses another."""
     moving, fixed = "let `next` record what the moves did, and read that with `true`", "it must be known before the first state"
     first = [("init", ["true", "does"], fixed), ("role", ["true", "does"], fixed)]
     for name, others, advice in [("legal", ["does"], moving), ("goal", ["does"], moving), ("terminal", ["does"], moving), *first]:

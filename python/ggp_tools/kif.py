@@ -18,7 +18,7 @@ FILE_HEADS = {
 }
 # Messages show at most this many characters of a sentence.
 MOST_SHOWN = 160
-# The end of a word that has a number.
+# The number at the end of a word.
 DIGITS = "[0-9]+"
 COMMENT = re.compile(r";[^\n]*")
 TOKEN = re.compile(r"[()]|[^\s()]+")
@@ -27,7 +27,7 @@ NO_CHARACTER = re.compile(r"[^\t\n\r\x20-\x7e]")
 
 
 class Refused(Exception):
-    """Why a description cannot be grounded, in one line, with the number of the sentence that is wrong, if there is one, and advice."""
+    """Why a description cannot be grounded: one line, the number of the faulty sentence, if there is one, and advice."""
 
     def __init__(self, words: str, sentence: int | None = None, advice: str = "") -> None:
         super().__init__(words)
@@ -53,7 +53,7 @@ def advice_for_bytes(text: str) -> str:
 
 
 def tokens(text: str, takes_bytes: bool = False) -> Iterator[tuple[str, int, int]]:
-    """Yields each parenthesis and each atom of a text with its index and the number of lists around it. Refuses a text that is not KIF. With
+    """Yields each parenthesis and each atom of a text, with its index and the number of lists that contain it. Refuses a text that is not KIF. With
     `takes_bytes` any bytes are allowed, for messages."""
     text = blanked(text)
     if not takes_bytes and (bad := NO_CHARACTER.search(text)):
@@ -197,7 +197,7 @@ def grouped(values: Iterable[Value], key: Callable[[Value], Key]) -> dict[Key, l
 
 
 def fresh(word: str, taken: Collection[str], ending: str = "") -> str:
-    """Appends hyphens to a word until no taken name is the word followed by a match of this regular expression."""
+    """Appends hyphens to a word until no name in `taken` consists of the word and a match of this regular expression."""
     while any(re.fullmatch(re.escape(word) + ending, name) for name in taken):
         word += "-"
     return word

@@ -15,7 +15,7 @@ from ggp_tools.moments import moment_at
 from ggp_tools.printable import printable
 from ggp_tools.streams import limited_lines
 
-# An answer has at most 65,536 bytes, and each is written as at most six characters. Longer lines are not events, and are not kept in memory.
+# An answer has at most 65,536 bytes, each written as at most six characters. A longer line is not an event, and is not kept in memory.
 LONGEST_LINE = 1 << 23
 START, PLAY, STOP, ABORT = KINDS = "START", "PLAY", "STOP", "ABORT"
 ENDS = STOP, ABORT
@@ -37,7 +37,7 @@ class Event:
         return None if time is None else time / 1_000
 
     def is_sound(self) -> bool:
-        """Returns whether values of the right types are also consistent."""
+        """Returns whether values that have the right types are also consistent."""
         return True
 
 
@@ -79,7 +79,7 @@ class Message(Event):
 
 @dataclass(frozen=True, slots=True)
 class Open(Event):
-    """A match is about to send its first START."""
+    """A match begins: its first START follows."""
 
     match: str
     time: int | None
@@ -132,7 +132,7 @@ def is_value(key: str, value: object, kinds: tuple[type, ...]) -> bool:
 
 
 def event_of(line: bytes) -> Event | None:
-    """Parses a line. Returns None if it is not an event."""
+    """Returns the event in a line, or None if the line is not an event."""
     try:
         values = json.loads(line)
     except (ValueError, RecursionError):

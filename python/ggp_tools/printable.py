@@ -3,8 +3,8 @@
 import re
 
 NOT_PRINTABLE = re.compile(r"[^\x20-\x7e]")
-# The maximum numbers of characters of a line of output, and of a line of another program's message. The last lines of such a message are searched in
-# this many bytes.
+# The maximum numbers of characters of a line of output, and of a line of another program's message. Only the last MOST_READ bytes of such a message
+# are searched for its last lines.
 MOST_OF_LINE, MOST_SHOWN, MOST_READ = 10_000, 1_000, 1 << 16
 MORE = ".."
 
@@ -37,7 +37,6 @@ def shown(text: str, most: int = MOST_OF_LINE) -> str:
 
 
 def counted(number: int, word: str, *verbs: str) -> str:
-    """Returns a number with a noun in the right form. If two verbs are given, the right one follows: the first for one thing, the second for
-    several."""
+    """Returns a number with a noun in the right form. If two verbs are given, one follows: the first for one thing, the second for several."""
     plural = "" if number == 1 else "es" if word.endswith("ch") else "s"
     return " ".join([f"{number:,} {word}{plural}", *verbs[number != 1 :][:1]])

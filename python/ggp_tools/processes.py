@@ -23,6 +23,6 @@ def run_whole(words: Sequence[str], **more: object) -> subprocess.CompletedProce
 
 
 def ended_words(status: int) -> str:
-    """Describes how a process ended, from its status, which is negative after a signal."""
+    """Describes how a process ended. Its status is negative if a signal ended it."""
     name = next((f" ({known.name})" for known in signal.Signals if known == -status), "")
     return f"it was killed by signal {-status}{name}" if status < 0 else f"it ended with status {status}"

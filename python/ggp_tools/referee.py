@@ -42,7 +42,7 @@ class BadRules(Exception):
 
 
 class Unchecked(Exception):
-    """What the referee could not check, and why: it ran out of a resource or was killed. This is not a verdict."""
+    """The referee could not check something, because it ran out of a resource or was killed. This is not a verdict."""
 
 
 def find_program(given: str | None) -> str:
@@ -168,7 +168,7 @@ class Referee:
         if last.startswith(TOO_LONG):
             raise BadRules(last.removeprefix(f"{BAD_RULES}: "))
         if last == BAD_RULES:
-            # The line before has the place and the reason.
+            # The last line but one has the place and the reason.
             raise BadRules(message_lines(run.stderr)[-2:][0].removeprefix("ggp_manager: "))
         if run.returncode:
             raise unchecked(run, name or rules_path)
@@ -182,8 +182,8 @@ class Referee:
         return verdicts
 
     def replays(self, rules_path: pathlib.Path | str, accounts: Sequence[bytes], records: Sequence[bytes]) -> list[bool]:
-        """Returns for each call log whether its calls reproduce its record. `replay` stops at the first call log whose calls do not, so
-        `replay` is run again for the later ones. A brace before each call log ends the previous one."""
+        """Returns for each call log whether its calls reproduce its record. `replay` stops at the first one that does not, so this runs `replay`
+        again for the later ones. A brace before each call log ends the previous one."""
         results = []
         while len(results) < len(accounts):
             done = len(results)

@@ -55,8 +55,8 @@ class Journal:
 
 class Reporter:
     """Writes lines to standard output and, if standard error is a terminal, rewrites one line there. The first error of standard output is kept in
-    `fault`, because open matches must go on. Errors of the terminal are ignored, because this line only repeats information that is reported
-    elsewhere."""
+    `fault` and not raised, because open matches must continue. Errors of the terminal are ignored, because this line only repeats information that is
+    reported elsewhere."""
 
     def __init__(self, journal: Journal | None = None) -> None:
         self.fault, self.journal = None, journal
@@ -86,7 +86,7 @@ class Reporter:
         self.say(text)
 
     def sum_up(self, text: str, *in_journal: str) -> None:
-        """Writes a summary. The journal gets it too, or these lines instead, but only if the journal already has lines."""
+        """Writes a summary. If the journal already has lines, it gets the summary too, or the lines `in_journal` instead."""
         if self.journal and self.journal.is_open():
             for line in in_journal or [text]:
                 self.note(line)

@@ -44,7 +44,7 @@ def opened(name: str | pathlib.Path) -> Iterator[BinaryIO]:
 
 
 def limited_lines(file: BinaryIO, most: int) -> Iterator[tuple[bytes, bool]]:
-    """Yields at most this many bytes of each line of a file, and whether that is the whole line. The rest of a line is never in memory."""
+    """Yields at most this many bytes of each line of a file, and whether that is the whole line. Never has the rest of a line in memory."""
     while line := file.readline(most):
         rest = line
         while len(rest) == most and not rest.endswith(b"\n"):

@@ -20,7 +20,7 @@ FOLDER = pathlib.Path(__file__).parent / "templates"
 def end_without(missing: ImportError) -> typing.NoReturn:
     """Ends the command because a module is missing."""
     name = (missing.name or "").partition(".")[0]
-    # Debian's packages are for Debian's Python.
+    # Only Debian's Python can use Debian's packages.
     how = "" if sys.executable.startswith("/usr/bin/") else ", and run it with /usr/bin/python3"
     print(f"{pathlib.Path(sys.argv[0]).name}: this command needs the Python module {name}: apt-get install python3-{name}{how}", file=sys.stderr)
     raise SystemExit(2)

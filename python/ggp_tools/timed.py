@@ -21,5 +21,5 @@ def limited(seconds: float) -> Iterator[None]:
         signal.setitimer(signal.ITIMER_PROF, seconds)
         yield
     finally:
-        # The timer may fire here too.
+        # The timer may still fire during this call.
         signal.setitimer(signal.ITIMER_PROF, 0)

@@ -40,15 +40,15 @@ def oldest_of_most(connections: Collection[Connection], size_of: Callable[[Conne
 
 
 def one_for(client: str, connections: Collection[Connection]) -> Connection | None:
-    """Returns the connection that gives way to a new one of a client: the one from `oldest_of_most`, unless its client has at most one connection
-    more than this client."""
+    """Returns the connection to close for a new one of a client: the one from `oldest_of_most`, unless its client has at most one connection more
+    than this client."""
     counts, gone = Counter(connection.client for connection in connections), oldest_of_most(connections)
     return gone if gone and counts[client] + 1 < counts[gone.client] else None
 
 
 class Visitors:
-    """The connections, at most `most` at once. One client has at most an eighth of them, except this computer, which may be a proxy. Without
-    `spares_busy`, a connection whose request has arrived may have to give way, too. Threads may share this object."""
+    """The connections, at most `most` at once. One client has at most an eighth of them, except this computer, which may be a proxy. Unless
+    `spares_busy` is set, a connection whose request has arrived may also be closed for another. Threads may share this object."""
 
     def __init__(self, most: int, spares_busy: bool = True) -> None:
         self.most, self.spares_busy, self.lock = most, spares_busy, threading.RLock()
@@ -63,8 +63,8 @@ class Visitors:
         return self.most if client == THIS_COMPUTER else max(2, self.most // 8)
 
     def has_room_for(self, client: str) -> bool:
-        """Returns whether one more connection of a client is served. If necessary, the oldest idle connection gives way: this client's if the client
-        has used up its share, else that of the client with the most idle connections. If there is none, a busy connection may give way."""
+        """Returns whether one more connection of a client is served. If necessary, closes the oldest idle connection: this client's if the client has
+        used up its share, else that of the client with the most idle connections. If there is none, may close a busy connection."""
         with self.lock:
             is_own = self.counts[client] >= self.most_of(client)
             if not is_own and len(self.connections) < self.most:
@@ -92,8 +92,8 @@ class Visitors:
 
     @contextlib.contextmanager
     def viewing(self, connection: Connection) -> Iterator[bool]:
-        """Yields whether a connection may stay open to get changes. The connection must end once it is no longer one of the viewers, because another
-        one took its place. The last eighth of all connections, and of those of a client, is for loading pages."""
+        """Yields whether a connection may stay open to get changes. The connection must end when it is no longer one of the viewers, because another
+        one replaced it. The last eighth of all connections, and of those of a client, is for loading pages."""
         client, (most, own) = connection.client, (many - many // 8 for many in (self.most, self.most_of(connection.client)))
         is_served = sum(viewer.client == client for viewer in self.viewers) < own
         if is_served and len(self.viewers) >= most:

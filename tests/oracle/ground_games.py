@@ -36,7 +36,7 @@ class Game:
         self.roles = [head[1] for head in self.rules if head[0] == "role"]
 
     def question(self, state, joint):
-        """Returns a function that evaluates literals in the state, with these moves of the roles."""
+        """Returns a function that evaluates literals in a state with a joint move."""
 
         def holds(literal):
             match literal:
@@ -219,7 +219,7 @@ def output(rules, script):
 
 
 def check():
-    """Exits with status 1 if an output of this directory differs, or if there is none."""
+    """Exits with status 1 if an expected output differs, or if the directory has none."""
     files = sorted(GAMES.glob("*.kif"))
     for rules in files:
         if rules.with_suffix(".out").read_text() != output(rules.read_text(), rules.with_suffix(".script").read_text()):

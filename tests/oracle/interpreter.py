@@ -1,5 +1,6 @@
-"""A plain interpreter of GDL with variables, for `compare` and for a player of examples/players. It makes no instances: it answers a query top-down,
-rule by rule, according to the definition of truth in the standard. The interpreter is an oracle: it shares no code with the program or with `python`.
+"""A plain interpreter of GDL with variables, for `compare` and for a player of examples/players. It does not ground the rules: it answers a query
+top-down, rule by rule, according to the definition of truth in the standard. The interpreter is an oracle: it shares no code with the program or with
+`python`.
 
 A query is an atomic sentence that may have variables. The answers are the true sentences without variables that match the query. Rules are safe, so
 each answer of a rule has a value for each variable. If a query comes up again while it is being answered, its relation is recursive: from then on the
@@ -58,7 +59,7 @@ def fitted(pattern, term, values):
 
 
 def narrowed(head, question, values):
-    """Returns what the query implies for the variables of a rule's head, or None if the head cannot be an answer."""
+    """Returns the values that the query gives to the variables of a rule's head, or None if the head cannot match the query."""
     if is_variable(question):
         return values
     if isinstance(head, str):
@@ -73,14 +74,14 @@ def narrowed(head, question, values):
 
 
 def key_of(question, names):
-    """Returns the query with its variables numbered, so that equivalent queries are equal."""
+    """Returns the query with numbered variables, so that equivalent queries are equal."""
     if isinstance(question, str):
         return names.setdefault(question, f"?{len(names)}") if question[0] == "?" else question
     return tuple([key_of(part, names) for part in question])
 
 
 def name_of(sentence):
-    """Returns the relation of a sentence: its name and its number of arguments, or None instead of the number for an atom."""
+    """Returns the relation of a sentence: its name and the number of its arguments, which is None for an atom."""
     return (sentence, 0) if isinstance(sentence, str) else (sentence[0], len(sentence))
 
 
@@ -180,7 +181,7 @@ class Look:
         return known[key]
 
     def whole(self, circle, known):
-        """Returns all true sentences of recursive relations, derived repeatedly until there are no more."""
+        """Returns all true sentences of recursive relations: derives sentences until no new one follows."""
         if circle not in known:
             known[circle], count = Facts(fact for name in sorted(circle) for fact in self.game.facts.by_name.get(name, ())), -1
             try:
@@ -306,12 +307,12 @@ class Game:
         return found
 
     def can_grow(self, circle):
-        """Returns whether a query could come up again and again with a larger term for a variable."""
+        """Returns whether a query could come up again with ever larger terms."""
         asked = [sentence for name in circle for _, body in self.rules[name] for literal in body for sentence in asked_in(literal)]
         return any(not (is_variable(argument) or is_ground(argument)) for sentence in asked if name_of(sentence) in circle for argument in sentence[1:])
 
     def asked(self, state, joint, work):
-        """Answers a query in a state. It begins again if a relation turns out to be recursive."""
+        """Answers a query in a state. If a relation turns out to be recursive, starts again."""
         does = [("does", role, move) for role, move in zip(self.roles, joint)] if joint else []
         while True:
             try:
@@ -329,7 +330,7 @@ class Game:
         return self.asked(state, joint, lambda look: frozenset(term for _, term in look.answers(("next", "?term"))))
 
     def view(self, state, more=None):
-        """Returns the legal moves and the goals of each role, as sets, whether the game has ended, and the result of `more` if it is given."""
+        """Returns the legal moves and the goals of each role, as sets, whether the game has ended, and the result of `more`, if any."""
 
         def seen(look):
             legal = [{move for _, _, move in look.answers(("legal", role, "?move"))} for role in self.roles]

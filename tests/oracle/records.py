@@ -193,7 +193,7 @@ def is_end(record, state, strikes):
 
 
 def word(heap, text):
-    """Returns the expected output of `verify` for the text, for Countdown from this heap."""
+    """Returns the expected output of `verify` for a record of Countdown from this heap."""
     try:
         record = json.loads(text)
     except ValueError:
@@ -223,7 +223,7 @@ def word(heap, text):
 
 
 def random_record(chance):
-    """Returns the record of a match with strikes, possibly unfinished, and its heap."""
+    """Returns the heap and the record of a match with strikes, which may be unfinished."""
     heap, strikes, rounds = chance.randint(1, 12), chance.randint(0, 3), chance.choice([3, 20, 20, 20])
     state, moves, errors = Countdown(heap), [], []
     states = [state.texts()]

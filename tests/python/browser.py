@@ -13,7 +13,7 @@ import typing
 
 # The seconds after which a test gives up waiting for an answer or a change.
 HANGS = 900
-# The browser shows only pages of the tests, so it needs no sandbox. Some systems do not allow a sandbox.
+# The browser shows only pages of the tests, so it needs no sandbox. On some systems a sandbox is not possible.
 WORDS = (
     "--headless=new", "--no-sandbox", "--remote-debugging-pipe", "--disable-gpu", "--hide-scrollbars", "--no-first-run", "--disable-extensions", "--disable-dev-shm-usage",
     "--disable-background-networking", "--disable-component-update", "--disable-sync", "--force-color-profile=srgb", "--lang=en",
@@ -49,7 +49,7 @@ REACHED = """
 
 
 class Browser:
-    """A browser, until it is closed. `said` has what its pages logged, threw and requested."""
+    """A browser, until it is closed. `said` has the logged texts, the errors and the requests of its pages."""
 
     def __init__(self) -> None:
         self.room = tempfile.TemporaryDirectory(ignore_cleanup_errors=True)
@@ -172,7 +172,7 @@ class Page:
         return at, name, is_seen
 
     def unreadable(self) -> list[str]:
-        """Returns readability problems: text with low contrast in light or dark mode, and a page that is wider than the screen."""
+        """Returns the readability problems of a page: text with low contrast in light or dark mode, and a width that exceeds the screen."""
         found = []
         for size in (PHONE, WIDE):
             self.screen(*size)

@@ -1,4 +1,4 @@
-"""Makes matches under ground rules, with some late and some illegal answers, and checks them against a description."""
+"""Plays matches by ground rules, with some late and some illegal answers, and checks their records against a description."""
 
 import contextlib
 import io
@@ -29,7 +29,7 @@ def instantiated(text: str, how: str = making.WHERE_NEEDED, is_split: bool = Fal
 
 
 def begun(sentences: Sentences) -> ground_games.Match:
-    """Returns a match under ground rules, ready for its first turn."""
+    """Returns a match by ground rules, ready for its first turn."""
     game = ground_games.Game(sentences)
     match = ground_games.Match(game, ["m", "1", "1", *(f"p{at}" for at in range(len(game.roles)))])
     match.marks["start"] = dict.fromkeys(range(len(game.roles)), "")
@@ -37,7 +37,7 @@ def begun(sentences: Sentences) -> ground_games.Match:
 
 
 def ended(match: ground_games.Match) -> Record:
-    """Returns the record of a match after all roles got their last message."""
+    """Sends all roles their last message, and returns the record of the match."""
     match.marks["end"] = dict(match.marks["start"])
     return match.record()
 
@@ -71,7 +71,7 @@ def played_again(sentences: Sentences, record: Record) -> Record:
 
 
 def judged(dice: random.Random, legal: Sequence[Expression], every: Sequence[Expression]) -> tuple[Expression, str]:
-    """Returns a move, and the error that it replaces."""
+    """Returns the move of an answer, and its error."""
     kind = dice.random()
     if kind < 0.2:
         return legal[0], "TO"

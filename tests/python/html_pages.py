@@ -4,7 +4,7 @@ import warnings
 
 import bs4
 
-# A page may be a single word.
+# The text of a page may be a single word, which the parser would take for a file name.
 warnings.filterwarnings("ignore", category=bs4.MarkupResemblesLocatorWarning)
 Page = bytes | str
 

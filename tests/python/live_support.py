@@ -38,13 +38,13 @@ SILENT = Missed("TO (no answer in time: nothing received)")
 
 
 def look(reader: Reader) -> None:
-    """Lets a reader read the directory."""
+    """Makes a reader read the directory."""
     for _ in reader.update():
         pass
 
 
 def plan_in(room: str, names: list[str], rounds: int = 1, head: str = "", rules: bytes = RULES, roles: tuple[str, ...] = ("red", "blue")) -> Plan:
-    """Plans a round robin of these players in a directory, without its files."""
+    """Plans a round robin of these players, and makes the directory without the files of a plan."""
     folder = Folder(pathlib.Path(room))
     folder.make(folder.records, folder.logs, folder.open, folder.rules)
     folder.rules_of("heap").write_bytes(rules)

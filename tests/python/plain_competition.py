@@ -1,5 +1,5 @@
-"""Computes the expected results of a competition in a simple way, following docs/COMPETITION.md. This module shares no code with the package: a match
-is a plain record with the name of its game, and everything else is counted from such records."""
+"""Computes the expected results of a competition in a simple way, following docs/COMPETITION.md. This module shares no code with the package: it
+computes everything from plain records with the names of their games."""
 
 from fractions import Fraction
 
@@ -26,7 +26,7 @@ def counting_goals(record, forfeit):
 
 
 def beats(goals, gone, seat, other):
-    """Returns 1, 1/2 or 0: the points of one role against another, or None if both have forfeited."""
+    """Returns the points of one role against another (1, 1/2 or 0), or None if both have forfeited."""
     if seat in gone and other in gone:
         return None
     if seat in gone or other in gone:
@@ -45,7 +45,7 @@ def verdict(goals, gone, seat):
 
 
 def standings(records, names, forfeit, order, games=None):
-    """Returns a row for each player that has played, in order: rank, name, and counts."""
+    """Returns a row with rank, name and counts for each player that has played, in order."""
     rows = []
     for name in names:
         row = {"player": name, "matches": 0, "goals": [], "W": 0, "D": 0, "L": 0, "moves": 0, "replaced": 0, "absent": 0, "retired": 0, "won_by": 0, "lost_by": 0}
@@ -81,7 +81,7 @@ def placed(rows, key):
 
 
 def crosstable(records, forfeit, games=None):
-    """Returns, by pairs of players, the points of the first against the second, and the number of their matches."""
+    """For each pair of players, returns the points of the first against the second, and the number of their matches."""
     found = {}
     for record in records:
         goals, gone = counting_goals(record, forfeit)

@@ -35,11 +35,11 @@ class TestPlayer(threading.Thread):
     def __init__(self, name, kind="good", seed=0, most=1, at="127.0.0.1"):
         super().__init__(daemon=True)
         self.name, self.kind, self.random = name, kind, random.Random(seed)
-        # Its role, game and state in each match that it plays.
+        # The player's role, game and state in each match that it plays.
         self.matches, self.most, self.plays = {}, most, 0
-        # The maximum number of matches that it played at once.
+        # The most matches that it has played at once.
         self.sat = 0
-        # The ids of matches that began, that were aborted, and that were offered during another match.
+        # The ids of the matches that began, of those that were aborted, and of those that were offered during another match.
         self.begun, self.aborted, self.clashes = [], [], []
         # The kind and the match of each message of a match, in order.
         self.heard = []
@@ -75,7 +75,6 @@ class TestPlayer(threading.Thread):
             try:
                 connection, _ = self.socket.accept()
             except OSError:
-                # It is away, or leaves.
                 time.sleep(0.01)
                 continue
             with connection:
@@ -105,7 +104,7 @@ class TestPlayer(threading.Thread):
             connection.sendall(reply)
 
     def die(self, connection):
-        """Stops listening for a while, and loses the player's state."""
+        """Stops listening for a while, and discards the player's state."""
         connection.close()
         self.socket.close()
         time.sleep(AWAY)

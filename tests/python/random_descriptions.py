@@ -1,6 +1,6 @@
-"""Random small descriptions with variables. Each is grounded in four forms, which must describe the same game. Each description has facts, recursive
-relations, states with nested terms, moves, and nested negations and `or`s. Three matches of each are played with one form. The same answers must give
-the same records with the other forms, and each record is checked against the description."""
+"""Random small descriptions with variables. Each description is grounded in four forms, which must describe the same game. Each description has
+facts, recursive relations, states with nested terms, moves, and nested negations and `or`s. One form is used to play three matches. With the other
+forms, the same answers must give the same records, and each record is checked against the description."""
 
 import random
 
@@ -44,7 +44,7 @@ class Body:
         return self.dice.choice(self.bound[kind]) if self.bound[kind] and self.dice.random() < 0.9 else self.constant(kind, roles)
 
     def asked(self, source: "Source", roles: tuple[str, ...]) -> Expression:
-        """Returns a sentence of a relation, which may bind further variables."""
+        """Returns a sentence of a relation; the sentence may bind further variables."""
         arguments = []
         for kind in source.kinds:
             chance = self.dice.random()
@@ -119,7 +119,7 @@ class Describing:
         return found
 
     def add_rule(self, head: Source, known: list[Source], circle: list[Source] = ()) -> None:
-        """Adds a rule: first conditions that bind variables, then negations and `or`s of bound variables."""
+        """Adds a rule: first conditions that bind variables, then negations and `or`s over bound variables."""
         body = Body(self.dice)
         for _ in range(1 if circle else self.dice.randint(1, 3)):
             body.literals.append(body.asked(self.dice.choice(known), self.roles))
@@ -134,7 +134,7 @@ class Describing:
         self.sentences.append(("<=", head.sentence(arguments), *body.literals))
 
     def condition(self, body: Body, known: list[Source], depth: int = 0) -> Expression:
-        """Returns a condition on bound variables."""
+        """Returns a condition that uses only bound variables."""
         kind = self.dice.random()
         if kind < 0.25 and depth < 2:
             inner = [self.condition(body, known, depth + 1) for _ in range(self.dice.randint(1, 3))]

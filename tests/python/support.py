@@ -21,7 +21,7 @@ CACHE = tempfile.TemporaryDirectory()
 os.environ["XDG_CACHE_HOME"] = CACHE.name
 COMMAND = TOP / "python/ggp_competition"
 GAMES = TOP / "examples/games"
-# Three roles, one turn: a role wins if it shows something that neither of the others shows.
+# Three roles, one turn: a role wins if neither of the others shows the same.
 ODD = """
 (role one) (role two) (role three) (init new)
 (<= (legal one head) (true new)) (<= (legal one tail) (true new))
@@ -39,7 +39,7 @@ ODD = """
 
 
 def verdict_rows(*faults):
-    """Returns the output of `verify --json` for records with these faults; the fault of a lawful record is None."""
+    """Returns the output of `verify --json` for records with these faults. None stands for a lawful record."""
     verdicts = ({"verdict": "not_lawful", "fault": fault} if fault else {"verdict": "lawful"} for fault in faults)
     return "".join(json.dumps(verdict, separators=(",", ":")) + "\n" for verdict in verdicts).encode()
 
@@ -57,12 +57,12 @@ def program():
 
 
 def slowness():
-    """Returns how many times slower this computer is than an idle one, because other processes may be using it."""
+    """Returns how many times slower this computer is than an idle one."""
     return min(5, max(1, round(os.getloadavg()[0] / os.cpu_count())))
 
 
 def stand_in(**answers):
-    """Returns a fake referee with these answers, both for large games and for others."""
+    """Returns a fake referee that gives these answers, with and without the limits for large games."""
     referee = types.SimpleNamespace(is_large=False, **answers)
     referee.taking = lambda _: referee
     return referee
@@ -84,7 +84,7 @@ def raised(kind, ask, *arguments, **more):
 
 
 def toml(players, games, form='kind = "round_robin"', head=""):
-    """Returns the text of a competition.toml. Players are (name, address) and more, games are (name, file) and more."""
+    """Returns the text of a competition.toml. A player begins with its name and address, a game with its name and file; further keys may follow."""
     lines = ['name = "cup"', *head.splitlines(), "[form]", *form.splitlines()]
     for name, file, *more in games:
         lines += ["[[games]]", f'name = "{name}"', f'file = "{file}"', *more]
@@ -144,12 +144,12 @@ def script(path, text):
 
 
 def program_but(path, asked, done):
-    """Writes a program that behaves like the referee, except that it runs `done` if `asked` is true. Both are shell code."""
+    """Writes a program that behaves like the referee, but runs the shell command `done` if the condition `asked` holds. Both are shell code."""
     return script(path, f'#!/bin/bash\nif [[ {asked} ]]; then {done}; fi\nexec {program()} "$@"\n')
 
 
 def command_of(process):
-    """Returns the command of a process, or no bytes if it has ended, even during this call."""
+    """Returns the command line of a process, or no bytes if the process has ended."""
     try:
         return pathlib.Path(f"/proc/{process}/cmdline").read_bytes()
     except OSError:
@@ -162,7 +162,7 @@ def call(*words, data=b""):
 
 
 def assert_spoilt(test, files, spoilings):
-    """Checks that `check` refuses an archive of these files after each of these corruptions, with its message."""
+    """Checks that `check` refuses an archive of these files after each of these corruptions, with the expected message."""
     for name, (spoil, words) in spoilings.items():
         with test.subTest(name):
             (test.folder / "spoilt.tar.gz").write_bytes(spoil(dict(files)))

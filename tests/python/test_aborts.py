@@ -20,7 +20,7 @@ def sent(*words):
 
 class Aborts(unittest.TestCase):
     def player(self, reply):
-        """Starts a player that gives this answer to each message, and returns its address."""
+        """Starts a player that answers each message with this text, and returns its address."""
         listening = socket.create_server(("127.0.0.1", 0))
         self.addCleanup(listening.close)
 
@@ -55,7 +55,7 @@ class Aborts(unittest.TestCase):
 
 
 class Words:
-    """A referee whose command for an address runs this address as a script."""
+    """A fake referee whose command for an address runs the address as a script."""
 
     def __init__(self):
         self.begun = []
@@ -66,7 +66,7 @@ class Words:
 
 
 class Processes(unittest.TestCase):
-    """The processes end in any case."""
+    """`abort` ends its processes in all cases."""
 
     def setUp(self):
         self.room = pathlib.Path(self.enterContext(tempfile.TemporaryDirectory()))

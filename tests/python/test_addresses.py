@@ -1,4 +1,4 @@
-"""The addresses of players: which of them the system refuses, and which are the same."""
+"""The addresses of players: which addresses the system refuses, and which are equal."""
 
 import json
 import socket

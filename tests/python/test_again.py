@@ -22,7 +22,7 @@ RECORD = (
 
 
 class Lawful:
-    """A referee that accepts each record, and reproduces it from its call log."""
+    """A fake referee that accepts each record, and reproduces it from its call log."""
 
     path = "none"
 

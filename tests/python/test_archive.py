@@ -1,4 +1,4 @@
-"""`check` accepts an archive in another directory, and refuses it after each of many corruptions, most of them with matching checksums."""
+"""`check` accepts an archive in another directory, and refuses it after each of many corruptions. Most of these have matching checksums."""
 
 import errno
 import gzip
@@ -36,7 +36,7 @@ def packed(files, fits=True):
 
 
 def changed(name, change):
-    """Returns a corruption that changes one file, with matching checksums."""
+    """Returns a corruption that changes one file, and then the checksums to match."""
 
     def spoil(files):
         before = files[name]
@@ -60,7 +60,7 @@ def without(*names):
 
 
 def nonsense(files):
-    """Replaces a description, with matching checksums there and in the rules."""
+    """Replaces a description, and the checksums in the archive and in the rules to match."""
     text, sums = b"(role nonsense)\n", "cup/rules/DESCRIPTIONS.sha256"
     old = hashlib.sha256(files["cup/games/odd.kif"]).hexdigest()
     files["cup/games/odd.kif"] = text
@@ -152,7 +152,7 @@ class Archive(unittest.TestCase):
         return files_of(self.archive)
 
     def plain_spoilings(self, files):
-        """Returns the corruptions other than those of one file with matching checksums."""
+        """Returns the corruptions that are not changes of one file with matching checksums."""
         data = self.archive.read_bytes()
         record = files["cup/records/cup-001.json"]
         raw = gzip.decompress(data)
@@ -183,7 +183,7 @@ class Archive(unittest.TestCase):
                 status, out, said = run(self.other, "check", "spoilt.tar.gz")
                 self.assertEqual((status, out), (1, ""))
                 self.assertIn(words, said)
-                # Advice for the directory of a competition does not help here.
+                # A user of `check` cannot follow advice about the directory of a competition.
                 self.assertNotRegex(said, "plan` writes|put back")
                 self.assertRegex(said, r"^[\x20-\x7e\n]*$")
                 self.assertNotIn(f"{tempfile.gettempdir()}/tmp", said)

@@ -1,4 +1,4 @@
-"""The parts of an archive, and how each is checked. The referee is fake, and the matches are made up."""
+"""The parts of an archive, and how each is checked. The referee and the matches are fake."""
 
 import dataclasses
 import errno
@@ -30,7 +30,7 @@ HEAD = "start = 5\nplay = 5\n"
 
 
 class Right:
-    """A referee that accepts everything, unless another answer is set."""
+    """A fake referee that accepts everything, unless the test sets another answer."""
 
     def __init__(self, path):
         self.path, self.is_large, self.wrong, self.unchecked = path, False, {}, None
@@ -74,7 +74,7 @@ class Made(unittest.TestCase):
         self.path = self.room / "cup.tar.gz"
 
     def end(self, match, goals):
-        """Writes the files of a match. The call log has the calls that the match's log implies."""
+        """Writes the files of a match. The call log has the calls that follow from the match's log."""
         folder = self.plan.folder
         folder.record(match.id).write_text(json.dumps(record_of(match, [["(take 2)", "noop"], ["noop", "(take 1)"]], [["", ""], ["", ""]], goals)) + "\n")
         calls = "".join(f"{at + 1}\tnext {match.id} {at}\towe 0 start\n{at + 1}\tsubmit {match.id} {at} 0 ready\ttaken\n" for at in (0, 1))

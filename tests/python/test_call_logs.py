@@ -1,4 +1,4 @@
-"""A call log has exactly the calls that the referee of one match makes, and a match log has the messages and answers of the call log."""
+"""Checks that a call log has exactly the calls that the referee of one match makes, and that a match log has the same messages and answers."""
 
 import dataclasses
 import io
@@ -80,7 +80,7 @@ class LogFaults(unittest.TestCase):
         before = LOG.replace("ready", "wrong")
         self.assertEqual(self.fault(before), "line 2 of its log does not agree with its call log")
         self.assert_foreign(LOG + LOG, 10)
-        # Only the events after the second beginning are published.
+        # Only the events after the match began again are published.
         self.assert_foreign("".join([*LINES[:3], LINES[0], *LINES[3:]]), 2)
         lost = line_of(Other("lost", {"match": "cup-001", "time": 5, "reason": "gone"})).decode()
         self.assertEqual(published(f"Welcome\x1b[1m\n{before}{lost}{LOG}".encode(), "cup-001"), LOG.encode())

@@ -1,4 +1,4 @@
-"""Processes that play and check matches, and jobs: how they are ended, and how their output is read."""
+"""Jobs and the processes that play and check matches: how they end, and how their output is read."""
 
 import asyncio
 import gc
@@ -49,7 +49,7 @@ def ran(script, job=None):
 def test_a_job_that_runs_and_is_silent_is_lost(monkeypatch):
     monkeypatch.setattr(jobs, "LOST_SECONDS", 1)
     job = ran(f"{NODE}sys.stdin.read()")
-    # The process noticed the end of its input, and ended by itself.
+    # The process ends when its input ends.
     assert (job.why, job.node, job.status, job.process.returncode, job.goes_on) == ("nothing was heard from it for 1 s", "n1", None, 0, False)
 
 
@@ -115,7 +115,7 @@ def test_a_job_that_runs_gets_a_byte_now_and_then_and_its_task(monkeypatch):
         await job.running
         return job
 
-    # A byte may come before the task.
+    # A stray byte may precede the task.
     assert asyncio.run(go()).output.split(b" ", 1)[1] == b'{"words": ["one", "two words"]}\n\n'
 
 

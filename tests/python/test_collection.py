@@ -42,7 +42,7 @@ class Sorting(unittest.TestCase):
 
 
 class Says:
-    """A referee that accepts a record only with the rules in its key `by`. It refuses descriptions by name."""
+    """A fake referee that accepts a record only with the rules that the record's key `by` names, and refuses descriptions with certain names."""
 
     def __init__(self, *refused):
         self.refused, self.asked = refused, []
@@ -162,7 +162,7 @@ class WithPile(InFolder):
         return subprocess.CompletedProcess(said.args, said.returncode, said.stdout.decode(), said.stderr.decode())
 
     def converted(self, text: str, action: str, *words: object) -> subprocess.CompletedProcess:
-        """Converts records of this text."""
+        """Converts the records in this text."""
         self.pile.write_text(text, encoding="ascii")
         return self.run_records(action, *words, self.out, self.pile)
 

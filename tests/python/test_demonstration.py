@@ -20,9 +20,9 @@ NAMES, LATE = ("ann", "bob", "cid", "dora", "eve", "finn", "gus"), "zoe"
 GAMES_OF_CUP = [
     ("tictactoe", GAMES / "tictactoe.kif"), ("countdown", GAMES / "countdown.kif"), ("connectfour", GAMES / "general/connectfour.kif", 'player_rules = "variables"'),
 ]
-# The clocks are so long that none runs out before the tests end. A player that does not answer INFO in time is asked again.
+# The clocks are so long that none runs out during the tests. A player that does not answer INFO in time is asked again.
 HEAD = "start = 3600\nplay = 3600\nstrikes = 2\nforfeit = true\ntries = 1000\nwait = 1\n"
-# Three matches of the first round: the first one, one of a bad player, and the last one between the players of the first match.
+# Three matches of the first round: the first match, one of a bad player, and the last match between the players of the first one.
 FIRST, OF_EVE, OF_ANN = "cup-001", "cup-003", "cup-016"
 BOARDS, BOARD = "document.getElementById('boards')", f"document.getElementById('board-{FIRST}')"
 # The label of each place on the board of the first match, and its glyph.
@@ -60,7 +60,7 @@ class Shown(TestPlayer):
         if hold := self.holds.get((self.name, match, self.turns[match])):
             hold.reached.set()
             hold.let_go.wait()
-        # In the match OF_EVE, the player begins with the first of these moves.
+        # In the match OF_EVE, the player's first move is the first of these.
         at = int(match[-3:]) - int(OF_EVE[-3:]) + self.turns[match] - 1
         return HOSTILE[at % len(HOSTILE)] if self.kind == "hostile" else move
 
@@ -87,7 +87,7 @@ class Demonstration(InFolder):
         return found
 
     def play_until(self, hold: Hold) -> subprocess.Popen:
-        """Starts the matches, and returns the run of `play` once a player waits."""
+        """Starts `play`, and returns its process once a player waits."""
         playing = start(self.folder, "play", "--at-once", "4")
         self.addCleanup(playing.communicate)
         self.addCleanup(playing.kill)
@@ -114,7 +114,7 @@ class Demonstration(InFolder):
         return page
 
     def assert_harmless(self, page: Page) -> None:
-        """Checks that texts of players did nothing to a page: none of their scripts ran or was blocked, and no element comes from them."""
+        """Checks that texts of players did nothing to a page: none of their scripts ran or had to be blocked, and no element comes from them."""
         title = page.value("document.title")
         self.assertIn("cup", title)
         self.assertLessEqual(page.value("document.scripts.length"), 1)
@@ -134,7 +134,7 @@ class Demonstration(InFolder):
         self.await_turn(page, 3)
         self.assertIn("ann (xplayer), bob (oplayer)", page.value(f"{BOARD}.innerText"))
         self.assertRegex(page.value(f"document.getElementById('open-{FIRST}').innerText"), rf"ann, bob\s+3\s+xplayer to move: ann\s+{WHILE}")
-        # The page shows the state in which the player thinks.
+        # The page shows the state in which the player must move.
         terms = [example.show(term).strip("()").split() for term in self.players["ann"].matches[FIRST][2]]
         self.assertEqual(page.value(CELLS), {term[1] + term[2]: SIGNS[term[3]] for term in terms if term[0] == "cell"})
         page.screen(*PHONE)
@@ -148,7 +148,7 @@ class Demonstration(InFolder):
         self.assertTrue(page.value("window.isFirst"))
 
     def go_by_keyboard(self, page: Page, hold: Hold) -> None:
-        """Moves the focus from link to link to the match. The focus stays when the board changes, and the keyboard opens the match's page."""
+        """Moves the focus to the match, link by link. The focus must stay when the board changes, and the Enter key must open the match's page."""
         found = []
         while not found or found[-1][1] != f"matches/{FIRST}.html":
             page.press("Tab")
@@ -163,7 +163,7 @@ class Demonstration(InFolder):
         self.assertIn(f"Match {FIRST}: ann (xplayer), bob (oplayer)", text)
         self.assertRegex(text, rf"The match is open; xplayer to move: ann \({WHILE}\)\.\s+After turn 4: xplayer to move")
         self.assertEqual(page.unreadable(), [])
-        # A place of the board that shows a glyph has the label as text when it has the focus.
+        # A focused place of the board has its label as text, even if it shows a glyph.
         while not re.match(r"\d \d: [xo]$", page.reached()[1]):
             page.press("Tab")
         self.assertEqual(json.loads(page.value("getComputedStyle(document.activeElement, '::after').content")), page.reached()[1])
@@ -197,7 +197,7 @@ class Demonstration(InFolder):
         print(f"43 matches of eight players, watched, killed twice and disputed, in {time.monotonic() - began:.0f} s", flush=True)
 
     def watch_first_run(self, page: Page) -> None:
-        # A reloaded page lacks this.
+        # Reloading the page would remove this variable.
         page.value("window.isFirst = true")
         hold, next_hold = self.hold("ann", FIRST, 3), self.hold("ann", FIRST, 5)
         playing = self.play_until(hold)

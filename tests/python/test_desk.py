@@ -18,7 +18,7 @@ def countdown_desk(*options: str) -> Desk:
 
 
 def play_countdown(desk: Desk, match_id: str) -> list[object]:
-    """Plays a match in which each player takes one. Returns what was due to role 0."""
+    """Plays a match in which each player takes one. Returns the messages that were due to role 0."""
     desk.open(match_id, ["ann", "bob"])
     dues = []
     while dues[-1:] != [Over()]:
@@ -82,7 +82,7 @@ def test_calls_that_are_refused() -> None:
 
 
 def test_values_that_are_not_words() -> None:
-    # The desk refuses the last row below too, so the desk ends with exit status 1.
+    # The desk also refuses the last row below, so it ends with exit status 1.
     with pytest.raises(DeskEnded, match="status 1"), countdown_desk() as desk:
         desk.open("m1", ["ann", "bob"])
         for call in (

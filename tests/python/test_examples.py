@@ -37,7 +37,7 @@ class Examples(InFolder):
         status, out, said = run(INSTANTIATE, "--seconds=-1", GROUND)
         self.assertEqual((status, out), (2, ""))
         self.assertIn("ggp-instantiate: error: argument --seconds: -1 is not a number above 0 and up to 1,000,000\n", said)
-        # Chess takes seconds, so the processor timer fires in time; nim may be over before that.
+        # Chess takes seconds of processor time, so the timer fires before the end. Nim may end first.
         chess = TOP / "examples/games/general/large/chess.kif"
         self.assertRegex(run(INSTANTIATE, "--seconds", "0.000001", chess)[2], "^ggp-instantiate: stopped after 1e-06 s")
 

@@ -21,7 +21,7 @@ def terms_of(state: str) -> list:
 
 
 def read_match(text: str) -> dict[str, object]:
-    """Parses a match as ggp-base does for a known game: some keys are required, the others are optional."""
+    """Parses a match as ggp-base does for a known game: some keys are required, and the others are optional."""
     found = json.loads(text)
     match = {key: found[key] for key in ("matchId", "randomToken", "startClock", "playClock", "startTime", "isCompleted", "moves", "states", "stateTimes")}
     assert all(isinstance(match[key], int) for key in ("startTime", "startClock", "playClock")) and isinstance(match["isCompleted"], bool)
@@ -91,7 +91,7 @@ class Files(WithPile):
         read_match(text)
 
     def test_a_text_gives_back_the_moves_and_errors(self):
-        """The text of a match is a paragraph: headers, and a row for each turn. The error of a replaced move comes after `;`."""
+        """The text of a match is a paragraph: headers, and a row for each turn. A `;` precedes the error of a replaced move."""
         (self.folder / "m1.jsonl").write_text(LOG, encoding="ascii")
         replaced = json.dumps(json.loads(WHOLE) | {"errors": [["", "CE"], ["IL (take 9)", ""]]}) + "\n"
         said = self.converted(WHOLE + FAULTY + replaced, "pgn", "--log", self.folder / "m1.jsonl")

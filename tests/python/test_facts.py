@@ -1,4 +1,4 @@
-"""Facts that records do not have: checksums, and data from the logs of their matches."""
+"""Facts that are not in records: checksums, and data from the logs of the matches."""
 
 import hashlib
 import io
@@ -155,7 +155,7 @@ class Logs(unittest.TestCase):
 
 
 class Lines(unittest.TestCase):
-    """The facts of records that count as lawful."""
+    """Tests of the facts about lawful records."""
 
     def facts(self, *logs: str, descriptions: dict[str, str] | None = None) -> Facts:
         return Facts("ggp_manager 1.2.3", "ggp_manager 1.0.0", descriptions or {}, logs_of(*logs))

@@ -94,7 +94,7 @@ MISTAKES = [
     ('"cup"', '"c p"\nplay = 0', [(1, "name", "expected a name"), (2, "play", "from 1 to 86,400, found 0")]),
     ("strikes = 3", "# \N{GREEK SMALL LETTER ALPHA}\nstrikes = x", [(4, "strikes", "Invalid value")]),
 ]
-# Changes that put a number into GOOD, with its line and key, and with its limits.
+# Changes that put a number into GOOD, each with the line, the key and the limits.
 NUMBERS = [
     ("start = 30", "start = {}", 2, "start", 1, 86_400),
     *(("strikes = 3", f"{key} = {{}}", 3, key, *limits) for key, *limits in (

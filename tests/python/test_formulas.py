@@ -1,5 +1,5 @@
-"""Formulas over ground sentences are equivalent to the expressions from which they are made, in each state and for all moves, and their sizes are the
-lengths of their texts."""
+"""Formulas over ground sentences are equivalent to the expressions from which they are made, in each state and for all moves. The size of a formula
+is the length of its text."""
 
 import itertools
 import unittest
@@ -175,5 +175,5 @@ class OfFormulas(unittest.TestCase):
         first, second = STATE[2], MOVES["r"][0]
         self.assertEqual(self.formulas.expression(self.formulas.replaced(formula, known, False)), ("not", ("or", first, ("not", ("or", second, first)))))
         self.assertEqual(self.formulas.replaced(third, known, False), third)
-        # If two become one, the `or` disappears.
+        # If two alternatives become one, the `or` disappears.
         self.assertEqual(self.formulas.replaced(self.formulas.any([one, other]), {one: third, other: third}, False), third)

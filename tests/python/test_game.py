@@ -67,7 +67,7 @@ CHANGES = [
         " (sees ann bob)",
     ]),
 ]
-# Additions whose meaning is open, so that they are not suspicious.
+# Additions that may be intended, and therefore are not suspicious.
 OPEN = """(player ann) (player bob) (<= (role ?r) (player ?r))
 (init (cell 1)) (succ 1 2) (succ 2 3)
 (<= (legal ?r (go ?n)) (player ?r) (true (cell ?n)))
@@ -108,7 +108,7 @@ class Suspicious(unittest.TestCase):
         said = "eve is not a role, but a fact of the ground rules has it"
         self.assertEqual(lines_of(text.encode(), ground + eve), [f"line 3, column 5: {said}: (legal eve x) (and 1 more like this)"])
         self.assertEqual(lines_of(text.encode() + b"(<= (legal ?any x) (role ?any))", ground + eve[:14]), [f"{said}: (legal eve x)"])
-        # A sentence that could hold in some states may hold in none.
+        # A sentence whose rule could hold in some state may be false in all states that are reached.
         self.assertEqual(lines_of(text.encode(), ground + b"(<= (legal eve x) (true (cell 1)))"), [])
         self.assertEqual(lines_of(SOUND.encode(), SOUND.encode() + eve), [])
 
@@ -280,7 +280,7 @@ class Game(InFolder):
 
     @pytest.mark.gate
     def test_rules_that_are_too_deep_for_the_interpreter(self):
-        # Each level needs a call, and 20,000 calls are allowed: more than the usual limits of the program need.
+        # Each level needs a nested call. Up to 20,000 are allowed, which is more than the program's usual limits need.
         chain = "".join(f"(<= p{number} (or (or (or p{number + 1}))))\n" for number in range(21_000))
         status, lines = self.look(SOUND + chain + "p21000 (<= terminal (not p0))")
         self.assertEqual((status, lines[-1]), (0, "the interpreter cannot play it: its rules are nested too deeply"))

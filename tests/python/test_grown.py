@@ -16,7 +16,7 @@ REASON = b"the power of ann's machine was out"
 
 
 def without_round_2(files):
-    """Removes the last round, but not the results that follow from the records."""
+    """Removes the last round, and keeps the results that follow from the records."""
     files = dict(files)
     files["cup/schedule.tsv"] = b"".join(files["cup/schedule.tsv"].splitlines(keepends=True)[:3])
     return without(*(f"cup/{kind}" for match in ("cup-003", "cup-004") for kind in (f"records/{match}.json", f"accounts/{match}.txt", f"logs/{match}.jsonl")))(files)
@@ -60,7 +60,7 @@ SWISS = {
 
 
 class InArchive(unittest.TestCase):
-    """A test that makes an archive at the end."""
+    """A test that publishes an archive at its end."""
 
     def new_folder(self):
         self.folder = pathlib.Path(self.enterContext(tempfile.TemporaryDirectory()))
@@ -121,7 +121,7 @@ class Spoilt(InArchive):
         self.assertIn("4 records and call logs, the table and the pages are right; published", self.ran("check", "cup.tar.gz")[0])
         files = files_of(self.folder / "cup.tar.gz")
         assert_spoilt(self, files, SWISS)
-        # As if `play` was stopped after the first round.
+        # Simulates a `play` that was stopped after the first round.
         text = files["cup/schedule.tsv"]
         (self.folder / "schedule.tsv").write_bytes(b"".join(text.splitlines(keepends=True)[:3]))
         kept = {file: file.read_bytes() for match in ("cup-003", "cup-004") for file in self.folder.glob(f"*/{match}.*")}

@@ -1,4 +1,4 @@
-"""A competition that grows: planned matches stay, new ones follow them, and the message about a refused change names it."""
+"""A competition that grows: planned matches stay, new ones follow them, and the message about a refused change names the change."""
 
 import contextlib
 import unittest
@@ -36,7 +36,7 @@ def seated(matches):
 
 class Growth(unittest.TestCase):
     def grown(self, *versions, again=()):
-        """Returns the schedule after each file was replaced by the next one, with everything that was planned before."""
+        """Plans the first file, replaces it by each of the others in turn, and returns the schedule."""
         history = History((), tuple(again))
         for before, after in zip(versions, versions[1:]):
             refuse_changes(before, after)
@@ -109,7 +109,7 @@ class Growth(unittest.TestCase):
     def test_the_limit_of_matches(self):
         orders = [Again("cup-005", "cup-001", "x"), Again("cup-006", "cup-002", "x")]
         more, same = (competition(3, 1, ("two",)), competition(4, 1, ("two",))), (competition(2),)
-        # The first nine matches of the second file do not include all matches of the first one.
+        # The first nine matches that the second file alone would give do not include all matches of the first file.
         many = competition(3, 1, ("two",)), competition(6, 1, ("two",))
         cases = (12, more, [], False), (11, more, [], True), (6, same, orders, False), (5, same, orders, True), (8, many, [], True)
         for most, versions, again, is_past in cases:
@@ -177,7 +177,7 @@ class Growth(unittest.TestCase):
             self.assertIn(words, str(raised(Misfit, grown, history, after, {**ROLES, "more": 3}, nothing_known)))
 
 
-# A file with all kinds of tables, by their names and keys.
+# A file with all kinds of tables: their keys, by the name of the table.
 FILE = {
     "": {"name": '"cup"', "start": "10", "play": "10"},
     "launcher": {"command": '["srun"]', "slots": "2"},
@@ -189,9 +189,8 @@ FILE = {
 }
 HEADS = {"games": "[[games]]", "players": "[[players]]", "started": "[[players]]"}
 SWISS = {"form": {"kind": '"swiss"', "rounds": "2"}}
-# The effects of keys that are changed once matches were played. REFUSED: the change is refused with its name and line. SHOWN: the archive shows the
-# change, because the old file goes to `earlier`. FREE: no result of a played match depends on the key. The rules of a game are compared by their
-# checksums.
+# What happens if a key changes after matches were played. REFUSED: the change is refused with its name and line. SHOWN: the archive shows the change,
+# because the old file goes to `earlier`. FREE: no result of a played match depends on the key. The rules of a game are compared by their checksums.
 REFUSED, SHOWN, FREE = "refused", "shown", "free"
 CHANGES = (
     ("", "name", '"cup"', '"cop"', REFUSED, {}), ("", "start", "10", "9", REFUSED, {}), ("", "play", "10", "9", REFUSED, {}),
@@ -311,7 +310,7 @@ class Histories(InFolder):
         self.planned()
         self.assertEqual({file: file.read_bytes() for file in before}, before)
         (self.folder / "records/cup-001.json").unlink()
-        # The history shows that matches were played, although their records are elsewhere.
+        # The history shows that matches were played, even if their records are gone.
         self.write(2, 1)
         self.assertEqual(run(self.folder, "plan")[0], 2)
         for name in ("6.toml", "12.toml"):
@@ -335,7 +334,7 @@ class Histories(InFolder):
         (self.folder / "records").mkdir()
         (self.folder / "records/cup-001.json").touch()
         self.write(3, 1)
-        # As if `plan` had been killed after its first file.
+        # Simulates a `plan` that was killed after it wrote its first file.
         (self.folder / "earlier").mkdir()
         (self.folder / "earlier/2.toml").write_bytes((self.folder / "planned.toml").read_bytes())
         self.assertEqual(run(self.folder, "table")[0], 2)

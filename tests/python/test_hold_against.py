@@ -1,4 +1,4 @@
-"""The command `ggp-hold-against` in this process: its arguments, its limits of time and memory, and its result for each record."""
+"""`ggp-hold-against`, run in this process: its arguments, its limits of time and memory, and its result for each record."""
 
 import gzip
 import json

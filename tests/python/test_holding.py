@@ -26,7 +26,7 @@ ONE_TURN_GROUND = ONE_TURN.splitlines()[0].replace("(far a c)", "")
 
 
 class Followed(unittest.TestCase):
-    """Small games of one or two roles, with a made-up record for each."""
+    """Small games of one or two roles, each with a fake record."""
 
     RULES = "(role ann) (role bob) (init s) (legal ann go) (legal bob wait)"
 
@@ -123,7 +123,7 @@ class Followed(unittest.TestCase):
         turns = {"moves": [("go",), ("stay",)], "states": [["s"], ["t"], ["s"]], "roles": ("ann",)}
         said = "turn 2, ann: the record plays stay instead of an answer, but go comes before it, by sentence 2, line 1: (<= (legal ann go) (true t))"
         self.assertEqual(self.words(rules, **turns, errors=[[""], ["TO"]]), said)
-        # If a sentence was seen to derive a move in one state, the move has the place of this sentence in other states too.
+        # If a sentence derives a move in one state, the move has the place of that sentence in all states.
         turns = {"moves": [("stay",), ("stay",), ("stay",)], "states": [["s"], ["t"], ["s"], ["t"]], "roles": ("ann",)}
         following = Following(Game(rules))
         following.seen["ann", "go"] = 2
@@ -256,7 +256,7 @@ class Records(unittest.TestCase):
 
 
 class Described(unittest.TestCase):
-    """Forms of descriptions, and invalid ones."""
+    """Tests of valid and invalid descriptions."""
 
     def test_what_is_no_description(self):
         for text, words in (
@@ -273,7 +273,7 @@ class Described(unittest.TestCase):
         self.assertEqual((game.goals(position, "a"), game.goals(position, "b"), game.goals(position, "c")), ([0, 7, 99, 100], [3], []))
 
     def test_many_ways(self):
-        # Each `or` has its own variables. All its ways bind the same variables, so it becomes a relation.
+        # No two `or`s share variables, and all alternatives of an `or` bind the same ones, so each `or` becomes a relation.
         ors = " ".join(f"(or (p ?v{at}) (q ?v{at}))" for at in range(30))
         game = Game(f"(role a) (init s) (p 1) (q 2) (<= (legal a (m ?v0 ?v1)) (or (true s) (true t)) {ors})")
         self.assertEqual(set(game.moves(game.position(game.initial), "a")), {("m", first, second) for first in "12" for second in "12"})

@@ -1,4 +1,4 @@
-"""A player whose moves a person makes: its answers to the referee, and the data of the page."""
+"""`ggp-human`: its answers to the referee, and the data of its page."""
 
 import contextlib
 import http.client
@@ -27,13 +27,13 @@ from html_pages import parsed, text_of
 from support import GAMES, TOP
 
 RULES = (GAMES / "tictactoe.kif").read_text(encoding="ascii")
-# Rules with variables: the role that says the other number wins.
+# Rules with variables: each role says a number.
 OPEN = """
 (role a) (role b) (number 1) (number 2) (init new) (<= (legal ?r (say ?n)) (role ?r) (number ?n) (true new))
 (<= (next (said ?r ?n)) (does ?r (say ?n))) (<= terminal (true (said a ?n))) (<= (goal a 100) (true (said a 1))) (<= (goal a 0) (true (said a 2)))
 (<= (goal b 50) (role b))
 """
-# The seconds that a thread that waits for a person may take on a busy computer.
+# The most seconds that a thread waits for a person's action on a busy computer.
 SECONDS = 60
 
 
@@ -91,7 +91,7 @@ class Seats(unittest.TestCase):
         return thread
 
     def ask_for_move(self):
-        """Lets the seat answer a PLAY, and waits until the person is asked."""
+        """Lets the seat answer a PLAY, and waits until the page asks for a move."""
         thread = self.ask("(PLAY M NIL)")
         with self.seat.changed:
             self.assertTrue(self.seat.changed.wait_for(lambda: self.seat.view["phase"] == "moving", SECONDS))
@@ -359,7 +359,7 @@ class Pages(unittest.TestCase):
     def test_a_page_whose_computer_is_gone_without_a_word_does_not_stay_open(self):
         self.request("GET", self.of_page("events"))
         (asked,) = self.server.requests.values()
-        # The kernel then ends the connection, so that sending the next line fails.
+        # After that time the kernel ends the connection, so that sending the next line fails.
         self.assertEqual(asked.connection.getsockopt(socket.IPPROTO_TCP, socket.TCP_USER_TIMEOUT), server.PATIENCE * 1_000)
 
     def test_nothing_is_answered_without_the_token(self):
@@ -475,7 +475,7 @@ class Pages(unittest.TestCase):
                 answered = self.request("GET", self.of_page(), source="127.0.0.2").status
 
     def knock(self, source, said):
-        """Opens a connection and sends these bytes, which may be refused."""
+        """Opens a connection and sends these bytes. The server may refuse them."""
         line = socket.create_connection(self.server.server_address[:2], SECONDS, (source, 0))
         self.addCleanup(line.close)
         with contextlib.suppress(OSError):
@@ -513,7 +513,7 @@ class Pages(unittest.TestCase):
             for source in sources:
                 self.half(source, -(-200 // len(sources)))
             self.assertEqual(self.post("(INFO)"), b"available")
-            # A connection that gave way is counted until its thread has ended.
+            # A connection that was closed for a newer one counts until its thread has ended.
             while len(self.server.requests) > MOST_CONNECTIONS:
                 time.sleep(0.01)
 
@@ -546,7 +546,7 @@ class Pages(unittest.TestCase):
         with contextlib.ExitStack() as entered:
             for one in readers:
                 entered.enter_context(self.server.reading(one))
-            # A second one of client 4 takes the place of the first one.
+            # The second connection of client 4 replaces its first one.
             for new, gone in ((reader("c", 6), readers[2]), (reader(4, 6), readers[7]), (reader("d", 0), readers[0])):
                 entered.enter_context(self.server.reading(new))
                 gone.end.assert_called_once()

@@ -79,7 +79,7 @@ class InBrowser(unittest.TestCase):
         page.click(MOVE)
         self.assertEqual(self.answered(asked), "(mark 1 1)")
         self.assertEqual(self.answered(self.ask("(STOP M ((mark 1 1) noop))")), "done")
-        # The page keeps showing the end if the player exits at once, as after a single match.
+        # The page still shows the end if the player exits at once, for example after a single match.
         page.until("document.getElementById('note').textContent.includes('The match is over')")
         page.value("events.onerror()")
         self.assertRegex(page.text(), r"The match is over: xplayer .*, oplayer .*\. The player does not answer")
@@ -106,7 +106,7 @@ class InBrowser(unittest.TestCase):
         self.assertEqual(page.value(f"{CELLS}.filter((cell) => cell.matches('.new')).map((cell) => cell.title)"), ["4 1: yellow"])
         self.answered(self.ask("(ABORT M)"))
         asked.join(HANGS)
-        # Several moves with the same places are buttons, and so are moves without places.
+        # Moves that share their places are buttons, and so are moves without places.
         page = self.begin("a", PROMOTING)
         asked = self.ask("(PLAY M NIL)")
         page.until("document.querySelectorAll('#moves button').length === 1")
@@ -120,7 +120,7 @@ class InBrowser(unittest.TestCase):
         self.sender = "192.0.2.9"
         page = self.begin("xplayer", RULES)
         asked = self.ask("(PLAY M NIL)")
-        # A board that appears between the search for the button and the click would move the button.
+        # A board that appeared between finding and clicking the button would move it.
         page.until("document.querySelectorAll('.board button.can').length === 9")
         self.leave(page, "Referee: 192.0.2.9 (leave this match)")
         self.assertIsNone(self.answered(asked))
@@ -130,7 +130,7 @@ class InBrowser(unittest.TestCase):
         self.assertEqual(self.browser.said, [])
 
     def leave(self, page: Page, shown: str) -> None:
-        """Leaves the match, or the referee, by the button below the line that is shown."""
+        """Leaves the match, or the referee, with the button below the message."""
         page.until(f"document.getElementById('sender').textContent === '{shown}' && !document.getElementById('referee').hidden")
         page.click("document.getElementById('sender')")
         page.until("document.body.innerText.includes('restart ggp-human with --referee ADDRESS')")

@@ -1,4 +1,4 @@
-"""The commands work in the directory in which `make install` puts them, next to the referee and without the repository."""
+"""The commands that `make install` installs next to the referee work without the repository."""
 
 import os
 import pathlib

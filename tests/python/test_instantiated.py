@@ -36,7 +36,7 @@ class Kept(InFolder):
     def test_the_sum_is_over_all_code_that_a_result_comes_from(self):
         found = kept.sources()
         asked = {name for file in found for name in re.findall(r"from ggp_tools\.(\w+) import", file.read_text())}
-        # These modules only read, report, and limit the time.
+        # These modules only read, report and limit the time, so they do not change the result.
         self.assertEqual({f"{name}.py" for name in asked} - {file.name for file in found}, {"streams.py", "timed.py"})
 
     def test_a_file_that_is_cut_off_is_none(self):
@@ -61,7 +61,7 @@ class Kept(InFolder):
         own.rename(self.folder / "elsewhere")
         own.symlink_to(self.folder / "elsewhere")
         self.assertIsNone(kept.kept("key"))
-        # A link is not followed either when a file is written.
+        # Writing a file does not follow a link either.
         unfinished = folder / f"{UNFINISHED}{os.getpid()}-new"
         unfinished.symlink_to(self.folder / "elsewhere")
         before = (self.folder / "elsewhere").read_bytes()

@@ -22,7 +22,7 @@ MOVES = {"r": ["m1", "m2", "m3", "m4"], "s": ["n1", "n2"]}
 
 
 def holds(sentences, state, joint):
-    """Returns the true ground sentences, by the oracle."""
+    """Returns the true ground sentences according to the oracle."""
     game = ground_games.Game(sentences)
     return set(filter(game.question(set(state), {role: move for _, role, move in joint}), game.rules))
 
@@ -46,7 +46,7 @@ def dice_game(dice):
 
 
 def folded(rules, most_sentences, most_bytes):
-    """Returns a game that was factored as if these were its limits."""
+    """Returns a game, factored for these limits."""
     game = folding.begun(rules)
     game.fold(folding.Target(most_sentences, most_bytes))
     return game
@@ -70,7 +70,7 @@ class Folding(unittest.TestCase):
         rules = dice_game(random.Random(0))
         small, large = folding.Target(20, 1 << 20), folding.Target(10_000, 1 << 20)
         self.assertEqual([folding.folded(rules, targets).sentences() for targets in ([small], [large], [small, large])], [20, 42, 20])
-        # If a target takes too much work, early or late, or is impossible, the next one is tried.
+        # If a target is impossible or takes too much work, the next target is tried.
         too_short = small._replace(bytes=folding.begun(rules).bytes() // 2 - 1, work=1_000_000)
         late = small._replace(work=folding.folded(rules, [small]).formulas.work - 1)
         folding.begun(rules).must_have_room(late)
@@ -78,7 +78,7 @@ class Folding(unittest.TestCase):
             self.assertEqual(folding.folded(rules, [target, large]).sentences(), 42, target)
         why = raised(folding.Hopeless, folding.folded, rules, [folding.Target(3, 10), small._replace(work=1)])
         self.assertEqual(str(why), "factoring takes more than 1 steps")
-        # Without a further target the result is returned although it exceeds this one.
+        # After the last target, the result is returned even if it exceeds the target.
         self.assertEqual(folding.folded(rules, [folding.Target(20, 100)]).sentences(), 20)
 
     def test_what_is_refused_early_has_its_figures(self):
@@ -101,7 +101,7 @@ class Folding(unittest.TestCase):
         self.assertEqual(str(why), "sentences (at least 18 of 12)")
 
     def test_what_games_by_dice_come_to(self):
-        # Sentences, bytes and the beginning of the checksum of the text: any change of factoring shows here.
+        # The number of sentences, the bytes, and the beginning of the checksum: these show any change of factoring.
         for seed, most, most_bytes, *figures in (
             (0, 10_000, 1 << 20, 42, 1_441, "0978b570"), (0, 20, 1 << 20, 20, 1_471, "d823b622"), (0, 0, 0, 12, 8_518, "0193cc32"), (0, 14, 1 << 20, 14, 2_405, "67a8290d"),
             (1, 10_000, 1 << 20, 44, 1_510, "dc99034a"), (1, 20, 1 << 20, 20, 1_575, "f6e8ec2f"), (1, 0, 0, 12, 7_326, "75f1bb39"),
@@ -183,7 +183,7 @@ class Folding(unittest.TestCase):
         self.assertGreater(costs[3], costs[2])
 
     def test_what_is_put_into_others_costs_whose_it_is(self):
-        # The long relation is used once, and is inlined in that rule: its cost there counts for the relation.
+        # The long relation is used once, so it is inlined in that rule, where its cost counts.
         long = " ".join(f"(true (a-long-name {k}))" for k in range(20))
         text = f"(role r) (legal r m) (<= (next s) w (true s)) (<= w {long})"
         game = folded(all_rules(expressions(text)), 3, 1 << 20)
@@ -193,7 +193,7 @@ class Folding(unittest.TestCase):
         self.assertEqual((round(costs.total()), game.costs(False).total()), (game.bytes(), 3))
 
     def test_parts_cost_those_who_ask_for_them(self):
-        # Two rules of one head; only the second has the body that all the others share, which becomes a part.
+        # Two rules of one head. Only the second rule has the body that all other rules share and that becomes a part.
         long = " ".join(f"(true (a-long-name {k}))" for k in range(9))
         rules = [Rule(2, ("next", "c0"), (Literal(True, ("true", "s")),))]
         rules += [Rule(3, ("next", f"c{k}"), tuple(Literal(True, atom) for atom in expressions(long))) for k in range(5)]
@@ -256,7 +256,7 @@ class Rounds(unittest.TestCase):
             self.compare(rules, found, [(str(a), str(b)) for a, b in itertools.product(places, repeat=2) if dice.random() < 0.2])
 
     def test_ways_that_go_over_others_outside_are_not_halved(self):
-        # Any two paths make a longer one, but some paths are part of no other: the path from 0 to 0 over 4, 1 and 2 is not made of halves.
+        # Any two paths make a longer one, but not every path consists of two halves: the path from 0 to 0 over 4, 1 and 2 does not.
         ends = ["00", "02", "04", "10", "11", "12", "14", "20", "24", "40", "41", "44"]
         rules = [Rule(1, ("w", *way), (Literal(True, ("true", way)),)) for way in ends]
         for way, onward in itertools.product(ends, repeat=2):

@@ -1,4 +1,4 @@
-"""Matches that a launcher plays elsewhere. In these tests launchers are scripts that run the jobs on this computer."""
+"""Matches that a launcher plays elsewhere. In these tests, a launcher is a script that runs the job on this computer."""
 
 import collections
 import json

@@ -50,7 +50,7 @@ def test_a_page_of_a_long_record_has_its_first_states(monkeypatch):
 
 @pytest.mark.parametrize("game", ["countdown", "tictactoe", "buttons", "crossing"])
 def test_no_record_of_a_game_is_longer(game):
-    """In matches that the desk plays, each state, move and answer takes at most the bytes that the limit allows for it."""
+    """In matches on the desk, no state, move or answer takes more bytes than the limit assumes."""
     rules = (GAMES / f"{game}.kif").read_bytes()
     per_turn = (longest_record(rules) - USUAL_RECORD) / 10_001
     roles = [word.split(b")")[0] for word in rules.split(b"(role ")[1:]]

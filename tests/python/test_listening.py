@@ -26,7 +26,7 @@ CUT = "ggp_manager: the service ended, and cut connections that were still open 
 
 
 class Service:
-    """A desk that listens. `end` closes its standard input; after that, `history`, `records` and `errors` are what it has written."""
+    """A desk that listens. `end` closes its standard input; after that, `history`, `records` and `errors` have its output."""
 
     def __init__(self, folder: pathlib.Path, options: Sequence[str], game: str, address: str, before: Sequence[str]) -> None:
         self.files, self.game, pipe = (folder / "history", folder / "records"), game, subprocess.PIPE
@@ -45,7 +45,7 @@ class Service:
         return Connection(self.address).socket
 
     def ask(self, rows: bytes) -> bytes:
-        """Returns what a connection gets for these bytes until the desk closes it."""
+        """Sends these bytes over a connection, and returns what the desk sends until it closes the connection."""
         with self.connect() as client, ThreadPoolExecutor(1) as pool:
             sent = pool.submit(lambda: (client.sendall(rows), client.shutdown(socket.SHUT_WR)))
             replies = b"".join(iter(lambda: client.recv(65536), b""))
@@ -341,7 +341,7 @@ def test_the_page_of_two_players(tmp_path: pathlib.Path, monkeypatch: pytest.Mon
         with page.ThreadingHTTPServer(("127.0.0.1", 0), page.Handler) as server, ThreadPoolExecutor(1) as pool:
             pool.submit(server.serve_forever)
             links = page.re.findall("href=(/[^>]+)", post("/"))
-            # The second player marks a cell twice, and one that is not free: then the desk plays another cell.
+            # The second player marks a cell that is not free, and the desk plays another cell instead.
             moves = [(0, "2 2"), (1, "1 1"), (1, "1 1"), (0, "3 3"), (1, "3 3"), (0, "1 3"), (1, "2 3"), (0, "3 1")]
             shown = [post(links[player], cell=cell) for player, cell in moves]
             server.shutdown()

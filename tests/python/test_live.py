@@ -64,7 +64,7 @@ class InRoom(unittest.TestCase):
         reader.advance(NEVER)
 
     def play(self, number, moves, answers, roles=(0, 1)):
-        """Returns the lines of a turn. Its messages have the moves of the turn before."""
+        """Returns the lines of a turn. Its PLAY messages have the moves of the previous turn."""
         return "".join(line(self.match, role, number, f"(PLAY {self.match.id} {moves})", answers[role]) for role in roles)
 
 
@@ -74,7 +74,7 @@ class Lines(InRoom):
         self.assertFalse(live.is_locked(folder))
         with held(folder):
             self.assertTrue(live.is_locked(folder))
-            # If other locks disappear while the list is read, the list may lack a lock.
+            # The list of locks may miss a lock if others disappear while it is read.
             for missed, is_held in ((4, True), (5, False)):
                 with patch.object(live, "locks", side_effect=[*[[]] * missed, live.locks()]):
                     self.assertEqual(live.is_locked(folder), is_held)
@@ -120,7 +120,7 @@ class Lines(InRoom):
         self.say(log, self.play(2, "NIL", ["(take 1)"], [0]))
         os.utime(log, (1_000.0, 1_000.0))
         self.look(reader)
-        # The reader knows that one has answered, but no page changes.
+        # The reader knows that one player has answered, but no page changes.
         self.assertEqual((seen.turn(), seen.awaited(), reader.version, seen.since), (1, [1], *before))
         self.assertEqual(shown(seen), f"red to move: {self.match.players[0]}")
         with patch.object(seen, "is_late", True):
@@ -154,7 +154,7 @@ class Lines(InRoom):
         self.assertEqual((seen.turn(), seen.board.position.moves, seen.missed, seen.replaced), (2, [["(take 1)", "noop"]], {}, []))
         self.assertEqual(seen.board.turns()[0].errors, ("", "lost (out of ports)"))
         self.assertIn("the referee lacked a resource", turn_row(seen.board.turns()[0])[1])
-        # The match goes on, even if this retires the player.
+        # The match continues, even if this error retires the player.
         seen = self.seen_after(log, self.play(3, "((take 1) noop)", ["noop"], [0]), strikes=1)
         self.assertEqual((seen.turn(), seen.awaited()), (3, [0]))
         # The player may answer with this text.
@@ -205,7 +205,7 @@ class Lines(InRoom):
 
     def test_how_many_moves_were_replaced_is_said(self):
         log = self.play(2, "NIL", [SILENT, SILENT]) + self.play(3, "((take 1) noop)", [SILENT, SILENT])
-        # The answers of the first match arrive long after those of the other one.
+        # The answers of the first match arrive long after those of the second.
         os.utime(begin(self.plan, self.match, started(self.match) + log), (2e9, 2e9))
         over = self.plan.matches[1]
         moves = [["(take 1)", "noop"]] * 5
@@ -260,7 +260,7 @@ class Lines(InRoom):
         file = self.plan.folder.record(first.id)
         file.rename(f"{file}.refused")
         end(self.plan, first, record_of(first, *turns, [100, 0]))
-        # It is written in place, so the directory does not change.
+        # The file is overwritten in place, so the directory does not change.
         self.plan.folder.record(second.id).write_text("no record")
         look(reader)
         look(reader)
@@ -273,7 +273,7 @@ class Lines(InRoom):
         leave_players(log.parent)
         look(reader)
         self.assertEqual((reader.open, len(reader.waiting()), os.listdir(log.parent)), ({}, 6, ["players"]))
-        # Its players are asked again.
+        # The match sends INFO to its players again.
         (log.parent / "asking").touch()
         look(reader)
         self.assertEqual(reader.open[self.match.id].stage, "asking")
@@ -298,7 +298,7 @@ class Lines(InRoom):
         for minute, match in enumerate(reversed(self.plan.matches)):
             self.plan.folder.record(match.id).write_text(json.dumps(record_of(match, [["noop", "noop"]], [["CE", ""]], [0, 100])))
             times = [minute * 60_000, (59 - minute if minute % 2 == 0 else 59) * 60_000]
-            # One log has the turn, another one only the end.
+            # One log has the turn, and another log has only the end.
             said = line(match, 0, 2, f"(PLAY {match.id} NIL)", Missed("CE (no connection)"), 0, times[0]) if minute % 2 else ""
             stop = line(match, 0, 3, f"(STOP {match.id} NIL)", "done", 0, times[1])
             self.plan.folder.log(match.id).write_text(opened(match, times[0]) + said + stop)
@@ -382,7 +382,7 @@ class States(InRoom):
         self.assertEqual((len(board.position.moves), board.trouble), (1, NO_LINE))
         self.assertIn(html.escape(NO_LINE), str(drawn(board)))
         self.assertFalse(board.is_due())
-        # It continues once the line is there.
+        # The board continues when the line arrives.
         self.follow(board, self.play(3, "((take 1) noop)", ["", "(take 1)"], [1]) + self.play(5, "(noop (take 1))", ["noop"], [0]))
         self.assertEqual((len(board.position.moves), board.trouble), (3, ""))
 
@@ -420,7 +420,7 @@ class States(InRoom):
         self.assertEqual((self.heap(board), board.position.phase), ("(heap 0)", "stopping"))
 
     def test_a_label_looks_the_same_in_each_state(self):
-        # At first there is only one kind of label, which might mean anything.
+        # At first there is only one kind of label, whose meaning is open.
         board = self.board(rules=(GAMES / "tictactoe.kif").read_bytes())
         self.assertEqual(re.findall("<i class=\"ground\"[^>]*>(.*?)</i>", drawn(board)), ["\u00b7"] * 9)
 

@@ -1,4 +1,4 @@
-"""The live pages of an open match, compared with its record after each line of the log, for players with arbitrary answers."""
+"""Compares the live pages of an open match with its record, after each line of the log, for players with arbitrary answers."""
 
 import json
 import math
@@ -118,7 +118,7 @@ class Matches(InFolder):
         self.assertEqual(referee.asked, 2 + len(record["moves"]))
 
     def assert_shown(self, seen: LiveMatch, before: list[Message], after: list[Message], record: dict) -> None:
-        """Checks what is shown after this many messages were answered, using the later messages."""
+        """Checks the page after this many answers, and uses the later messages to find out what it must show."""
         position, left = seen.board.position, set(map(round_of, after))
         turns = [turn for turn in range(1, len(record["moves"]) + 1) if turn not in left and 0 not in left]
         self.assertEqual(seen.board.trouble, "")

@@ -1,4 +1,4 @@
-"""The output and the reports for a game, and the limits."""
+"""Grounding a game: the output, the reports and the limits."""
 
 import math
 import signal
@@ -67,7 +67,7 @@ class Made(unittest.TestCase):
         self.assertTrue(str(found).startswith("nothing is written, because this exceeds the limit however it is factored: sentences (at least "), found)
 
     def test_what_is_past_the_usual_limits_says_that_it_is_large(self):
-        # The game can't be factored to within the limits, or this would take too much work, or was not requested.
+        # The game cannot be factored to fit the limits, or factoring takes too much work, or nobody asked for it.
         for most, work, options in ((8, 400_000, {}), (11, 1, {}), (11, 400_000, {"is_large": True}), (11, 400_000, {"wanted": NEVER})):
             with mock.patch.dict(limits.MOST, {"sentences": most}), mock.patch.object(making, "MOST_WORK", work):
                 found, said = made(GAME, **options)

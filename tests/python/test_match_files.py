@@ -1,4 +1,4 @@
-"""Which matches are checked together, and which files are not read at all."""
+"""Checking the files of matches: which matches are checked together, and which files are never read."""
 
 import errno
 import json
@@ -31,7 +31,7 @@ RULES = Rules(b"(role a) (role b)", "", ("a", "b"))
 
 
 class Counting:
-    """A referee that accepts no record, and stores how many records it got at a time."""
+    """A fake referee that accepts no record, and stores the number of records in each call."""
 
     def __init__(self):
         self.counts = []
@@ -173,8 +173,8 @@ class Kept(unittest.TestCase):
 
 
 class Said(Counting):
-    """A referee whose verdict on each record is in the record. It reproduces a call log that contains `right`, and keeps the call logs and records
-    that it got."""
+    """A fake referee whose verdict on each record is in the record. It reproduces a call log if this contains `right`, and keeps the call logs and
+    records that it received."""
 
     def __init__(self, path):
         super().__init__()
@@ -245,8 +245,8 @@ class Looked(unittest.TestCase):
         self.assertEqual(referee_faults(self.plan, self.referee, "one", [], []), [])
 
     def known(self):
-        """Checks everything, using the known facts, and stores the new ones. Returns the results, and the number of records that the referee
-        checked."""
+        """Checks everything with the help of the cached facts, and caches the new ones. Returns the results, and the number of records that the
+        referee checked."""
         known = Known(self.folder.path)
         results, faults, misfits = self.look(known)
         known.write()
@@ -327,7 +327,7 @@ class Looked(unittest.TestCase):
             data = file.read_bytes()
             file.unlink()
             file.mkdir()
-            # If this were a verdict, the match would be played again.
+            # If this error counted as a verdict, the match would be played again.
             self.assertEqual(raised(IsADirectoryError, self.look).filename, str(file))
             file.rmdir()
             file.write_bytes(data)

@@ -1,4 +1,4 @@
-"""Matches of a ground description, in a game with all of its states listed here, and the phases of these matches."""
+"""Matches of a ground description, and their phases. The game is so small that the test lists all of its states."""
 
 import unittest
 
@@ -41,7 +41,7 @@ class Rules(unittest.TestCase):
         for term, moves in (("1", [["head", "tail"], ["tail", "head"], []]), ("2", [["wait"], [], []])):
             found, position = self.position(term)
             self.assertEqual([found.moves(position, role) for role in ("red", "blue", "green")], moves)
-        # The place of a move is that of the first sentence that can derive it, even if another one derives it here.
+        # The place of a move is that of the first sentence that can derive the move, even if another sentence derives it here.
         found = Game("(role r) (<= (legal r b) (true t)) (legal r a) (<= (legal r b) (true s)) (<= (legal r c) (true s)) (init s)")
         self.assertEqual(found.moves(found.position(found.initial), "r"), ["b", "a", "c"])
 

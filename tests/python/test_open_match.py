@@ -55,7 +55,7 @@ class WithMatch(unittest.TestCase):
 
     def setUp(self):
         self.folder = pathlib.Path(self.enterContext(tempfile.TemporaryDirectory()))
-        # The result of each process: exit status, output, message, and the seconds that it takes, if given.
+        # The result of each process: exit status, output, message and, optionally, the seconds that the process takes.
         self.laid_down = {"ann@h:1": READY, "bob@h:2": READY}
         self.meanwhile = lambda name: None
         self.enterContext(mock.patch.object(open_match, "run", self.run_process))
@@ -205,7 +205,7 @@ class Whole(WithMatch):
 
 class Asking(WithMatch):
     def asked(self, *answers, head=None):
-        """Sets the answers of both players. Returns whether the match was played, why not, and the reports."""
+        """Plays a match with these answers of both players. Returns whether it was played, the reason if it was not, and the reports."""
         if head:
             self.begin(head)
         self.laid_down |= dict(zip(("ann@h:1", "bob@h:2"), answers))
@@ -242,7 +242,7 @@ class Asking(WithMatch):
         self.slots.failed.update(ann=1, bob=1)
         self.asked(READY, NO_ANSWER)
         self.assertEqual((self.slots.failed, self.open.why), ({"ann": 0, "bob": 2}, "bob is silent"))
-        # The same if no player is missing, and if the match is played without the missing players.
+        # The same happens if no player is missing, and if the match is played without the missing players.
         for bob, failed in ((READY, 0), (NO_ANSWER, 2)):
             self.begin('tries = 2\nabsent = "play"\n')
             self.slots.failed.update(ann=1, bob=1)
@@ -284,7 +284,7 @@ class Asking(WithMatch):
 
 class Checking(WithMatch):
     def checked(self, played=b"", **verdicts):
-        """Returns the reason why a match with these verdicts does not count, and the match's files."""
+        """Plays a match with these verdicts. Returns the reason why it does not count, and its files."""
         if played:
             self.laid_down["played"] = (0, played, OPENED)
         for name, verdict in verdicts.items():
@@ -365,7 +365,7 @@ class Checking(WithMatch):
         self.assertEqual((files, self.open.stops_game), (self.kept(".differs"), True))
         self.assert_whole()
         self.assertEqual(reports, [("cup-001", {"description.kif": b"(p ?x)", "record.json": self.record, "account.txt": self.account, "words.txt": b"differs: turn 1\n"})])
-        # An unlawful record does not follow the rules either, so such a record shows nothing about the rules.
+        # An unlawful record may break any rules, so it does not show that the ground rules are wrong.
         self.begin(self.HEAD)
         self.checked(verdict="not lawful: goals")
         self.assertFalse(self.open.stops_game)

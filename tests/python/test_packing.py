@@ -44,7 +44,7 @@ def unpacked(tar):
 
 
 def block(name, kind=tarfile.REGTYPE, data=b"", change=None, form=tarfile.USTAR_FORMAT):
-    """Returns a header and the bytes after it. A change is applied to the header before its checksum is computed."""
+    """Returns a header and the bytes after it. `change` edits the header before the checksum is computed."""
     member = tarfile.TarInfo(name)
     member.type, member.size, member.mode = kind, len(data), 0 if kind == tarfile.XHDTYPE else 0o644
     header = bytearray(member.tobuf(form))

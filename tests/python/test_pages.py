@@ -57,7 +57,7 @@ TESTS = os.getpid()
 
 
 def killed(_):
-    # The process of the tests must not exit, even if the work is not split.
+    # The process of the tests must not exit, even if it does the work itself.
     assert os.getpid() != TESTS
     os._exit(1)
 
@@ -79,7 +79,7 @@ class SideBySide(unittest.TestCase):
         self.assertEqual(list(made_side_by_side(number_text, [])), [])
 
     def test_a_process_that_is_killed_is_a_shortage(self):
-        # Other tests may have left a thread. With such a thread, the work would not be split.
+        # A thread that another test left would prevent `write` from splitting the work.
         with patch("threading.active_count", return_value=1), self.assertRaisesRegex(Unchecked, "a process was killed"):
             list(made_side_by_side(killed, [(1,), (2,)]))
 
@@ -110,7 +110,7 @@ class Knockout(unittest.TestCase):
         first = [["ann", ""], ["(bye)", ""]]
         self.assertEqual(found[0], ([first, [["bob", ""], ["cid", ""]], [["ann", ""], ["?", ""]]], ["ann"], []))
         self.assertEqual(found[1], ([first, [["bob", "0"], ["cid", "2"]], [["ann", ""], ["cid", ""]]], ["ann", "cid"], []))
-        # With the same points and goals the better seed advances.
+        # With equal points and goals, the better seed advances.
         self.assertEqual(found[2][1:], (["ann", "cid", "ann"], ["Winner: ann", "Second: cid", "Third: bob"]))
         row = next(row for row in rows_of(page.find(id="matches")) if row[0] == last.id)
         self.assertEqual((row[2], row[3]), (" and ".join(last.players) + " drew", ", ".join(f"{name} 50" for name in last.players)))
@@ -152,7 +152,7 @@ class PagesOfMany(unittest.TestCase):
     def test_each_link_leads_to_a_page(self):
         pages = self.written(self.results)
         files = [path for path in pages.folder.rglob("*") if path.is_file()]
-        # Those of 300 matches, 25 players, one game, all matches, and the first one.
+        # One page for each of 300 matches, 25 players and one game, the list of all matches, and the first page.
         self.assertEqual(len(files), 328)
         linked = {pages.folder / "index.html"}
         for file in files:

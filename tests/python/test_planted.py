@@ -1,10 +1,10 @@
-"""Only a match that reaches an error in ground rules reveals this error. No earlier step does.
+"""An error in ground rules shows only in a match that reaches it. No earlier step does.
 
 Ten games of different kinds get an error each: a missing rule, two swapped moves, a goal that is off by one, or a rule without its last literal. In
 the game with a cycle, the cycle is unrolled in half of its rounds. The place of the error is random, and matches by the wrong rules are played until
 one of them reaches the error: under the right rules, the answers of this match give a different record. No random match needs that many rounds of a
-cycle, so in that game the moves are given: red's stones wind from side to side. The referee plays and checks by the same wrong rules, so it cannot
-notice the error. `ggp-hold-against` must find the error, and must find no error in the record by the right rules."""
+cycle, so in that game the test chooses the moves: red's stones wind from side to side. The referee plays and checks by the same wrong rules, so it
+cannot notice the error. `ggp-hold-against` must find the error, and must find no error in the record by the right rules."""
 
 import functools
 import json
@@ -81,7 +81,7 @@ def goal_off(name: str, dice: random.Random) -> Sentences:
 
 
 def without_last_literal(name: str, dice: random.Random) -> Sentences:
-    """Returns the rules, one of them without its last literal."""
+    """Returns the rules with one of them shortened by its last literal."""
     sentences = right_rules(name)
     at = dice.choice([at for at, sentence in enumerate(sentences) if sentence[0] == "<=" and len(sentence) > 3])
     return [*sentences[:at], sentences[at][:-1], *sentences[at + 1 :]]

@@ -181,7 +181,7 @@ class Play(InFolder):
             player.thinks = seconds
 
     def interrupted(self, *signals):
-        """Plays among slow players, and sends these signals while the first matches are open."""
+        """Plays a competition of slow players, and sends these signals while the first matches are open."""
         self.planned(["slow"] * 4, head="start = 5\nplay = 5\n")
         self.let_think(1)
         # The tests themselves may run under nohup.
@@ -209,7 +209,7 @@ class Play(InFolder):
     def test_a_run_after_a_killed_one_tells_at_once_for_whom_it_waits(self):
         self.planned(["slow", "slow"])
         self.killed()
-        # The error comes before any input is read and any message is sent.
+        # The error comes before `abort` reads input or sends a message.
         waiting = program_but(self.folder / "waiting", '"$1" = abort', "sleep 60")
         playing = start(self.folder, "play", "--program", waiting)
         self.assertEqual(playing.stdout.readline(), "open 1 match of an earlier `play`; its players are sent ABORT\n")
@@ -243,7 +243,7 @@ class Play(InFolder):
         wait_until(lambda: not command_of(number))
 
     def hung_up(self, *outputs):
-        """Plays with these outputs on a terminal that closes while the first match is open, and ignores the hang-up. Returns the exit status and
+        """Plays with these outputs on a terminal that closes while the first match is open. `play` ignores the hang-up. Returns the exit status and
         the other outputs."""
         self.planned(["slow"] * 3)
         ours, theirs = pty.openpty()
@@ -447,7 +447,7 @@ class Play(InFolder):
         self.planned(["good", "good"])
         short = "echo 'ggp_manager: want of memory' >&2; exit 3"
         played = ("records/cup-001.json", "accounts/cup-001.txt", "logs/cup-001.jsonl")
-        # With an empty input, `verify` only reports whether it accepts the rules. This happens when the plan is read.
+        # The condition excludes runs with an empty input, by which the plan asks only whether the rules are accepted.
         record = '"$1" = verify && -n $(head -c 1)'
         shortages = [(record, short, "want of memory"), (record, "kill -9 $$", "signal 9"), ('"$1" = replay', short, "want of memory")]
         for (asked, done, words), ending in zip(shortages, ("unchecked", "unchecked.2", "unchecked.3")):

@@ -20,7 +20,7 @@ def record(*errors: list[str]) -> dict:
 
 
 def lines(*messages: tuple) -> list[Event]:
-    """Returns messages of the match: role, number, text, answer and milliseconds of each."""
+    """Returns log lines for these messages: role, number, text, answer and milliseconds."""
     return [event_of(line(MATCH, *message).encode()) for message in messages]
 
 

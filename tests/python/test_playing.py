@@ -26,8 +26,8 @@ from support import Reports, raised, toml
 
 
 class Standing:
-    """An open match. It follows the test's instructions for its id, step by step: a stage, or a call. There is one list of steps, or one for each run
-    of the match."""
+    """A fake match. It follows the test's steps for its id: each step is a stage or a call. There is one list of steps, or one for each run of the
+    match."""
 
     laid_down: dict = {}
     begun: list = []
@@ -143,7 +143,7 @@ class Going(WithMatches):
 
         self.begin(at_once=1)
         self.playing.watch = watch
-        # The last match ends once the first results have been passed on.
+        # The last match ends after the results of the others were passed on.
         self.go(cup_012=["playing", lambda match: again.wait(600), won])
         self.assertEqual((watched[0][0] > 0, {is_main for _, is_main in watched}, self.reporter.lines), (True, {False}, ["pages are not written"]))
 
@@ -448,7 +448,7 @@ class Words(unittest.TestCase):
 
 class Signals(WithMatches):
     def counted(self, number):
-        """Returns how many interrupts there were after a signal, while a match was open."""
+        """Sends a signal while a match is open, and returns the number of interrupts."""
         async def play():
             await self.playing.play_rounds()
 

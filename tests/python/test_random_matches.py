@@ -133,7 +133,7 @@ class Matches(WithDesk):
         self.assertEqual(found.notes, [f"out of time: in 50 s there were {len(found.ended)} of 9 matches and {random_matches.counted(found.turns, 'turn')} of the next one"])
         self.assertEqual((self.drawn[:2], len(found.ended) > 0, self.kept[0][1].count("open")), (["match 1 of 9, 0 turns", "match 1 of 9, 1 turn"], True, 1))
         self.assertEqual(self.drawn[-1], "the program's desk")
-        # The command goes on until the second is over, and does not draw the line in the first half second.
+        # The command continues until the second is over, and does not draw the line in its first half.
         self.now, self.drawn = 0.0, []
         self.reporter.draw = self.drawn.append
         found = RandomMatches(RULES, None, "game.kif", self.reporter, 50)

@@ -24,7 +24,7 @@ def drawn_points(draw):
 
 
 def expected(player, points, logs):
-    """Returns the expected points of a player against the opponents in its group, from the strengths."""
+    """Computes from the strengths the expected points of a player against the opponents in its group."""
     met = {other: points[player, other] + points[other, player] for other in logs if (player, other) in points}
     return sum(count / (1 + math.exp(logs[other] - logs[player])) for other, count in met.items())
 
@@ -172,7 +172,7 @@ class Ratings(unittest.TestCase):
             self.assertAlmostEqual(found[first].rating - found[second].rating, 400 * math.log10(9), 5)
 
     def test_strengths_that_the_results_hardly_limit_are_not_shown(self):
-        # Two chains. The first player of each has beaten the last of the other, which hardly limits how the chains compare.
+        # Two chains. The first player of each chain has beaten the last player of the other, which says little about how the chains compare.
         points = {}
         for chain in ("abcdefghijklmno", "ABCDEFGHIJKLMNO"):
             points |= {way: got for pair in zip(chain, chain[1:]) for way, got in ((pair, 999), (pair[::-1], 1))}

@@ -1,4 +1,4 @@
-"""How records are followed: parsing of rules, query plans, compilation, and reports."""
+"""The interpreter of descriptions: parsing of rules, query plans, compilation, and reports."""
 
 import re
 import sys
@@ -79,7 +79,7 @@ class Conditions(unittest.TestCase):
         self.assertEqual(found, Rule(0, ("h", 1), ("?x",), (asked("p", "?x"), Either(((asked("q", "?x"),), (asked("r", "?x", positive=False),))))))
         found = rules("(<= (h ?x) (or (p ?x) (q ?x)))")
         self.assertEqual([rule.body for rule in found], [(asked("p", "?x"),), (asked("q", "?x"),)])
-        # In this case it may have any number of ways.
+        # In this case an `or` may have any number of alternatives.
         ors = " ".join("(or (q ?x) (r ?x))" for _ in range(40))
         self.assertEqual(len(rules(f"(<= (h ?x) (p ?x) {ors})")), 1)
         # A negation or an equality binds nothing.
@@ -219,7 +219,7 @@ class Games(unittest.TestCase):
         before = self.game.position(frozenset({"s"}))
         self.game.position(frozenset(("p", str(at)) for at in range(9)))
         self.assertEqual(answers(), [10, 2])
-        # An earlier position is queried as before.
+        # Queries about an earlier position give the same answers as before.
         self.assertEqual((self.game.moves(before, "a"), self.game.is_over(before)), (["go", "stay"], False))
 
     def test_what_follows_the_moves(self):
@@ -294,17 +294,17 @@ class Compiled(unittest.TestCase):
             game.moves(position, "r")
         kept = [table for number, table in first.tables.items() if table is second.tables[number] and any(isinstance(value, compiling.positions.Whole) for value in table.values())]
         self.assertEqual(len(kept), 1)
-        # A rule that is planned again keeps it too.
+        # The result is kept even if the rule is planned again.
         third = game.position(frozenset(("e", str(at), "b") for at in range(9)))
         game.moves(third, "r")
         self.assertTrue(any(table is kept[0] for table in third.tables.values()))
 
 
 class Steps(unittest.TestCase):
-    """How many lines of compiled rules run, on any machine."""
+    """The number of lines of compiled rules that run, which is the same on any machine."""
 
     def steps(self, game, state, *moves):
-        """Returns the legal moves and the next state, and how many lines ran for it."""
+        """Returns the legal moves, the next state, and the number of lines that ran."""
         count = 0
 
         def trace(frame, event, argument):

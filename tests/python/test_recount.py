@@ -15,7 +15,7 @@ from planning import nothing_known, planned
 from support import toml
 
 ROLES = {"solo": 1, "duel": 2, "pair": 2, "three": 3, "four": 4}
-# This many competitions of each kind.
+# The number of competitions of each kind.
 MANY = 120
 
 

@@ -45,11 +45,11 @@ class WithStandIn(InFolder):
         self.laid_down += 1
 
     def asked(self, run: int = 0) -> tuple[list[str], bytes]:
-        """Returns the arguments and the input of a run."""
+        """Calls the referee, and returns the arguments and the input of the run."""
         return (self.folder / f"words.{run}").read_text().splitlines(), (self.folder / f"input.{run}").read_bytes()
 
     def assert_unchecked(self, words: str, ask, *more) -> None:
-        """Sets an answer, and expects that it is not a verdict."""
+        """Sets an answer, and checks that it does not count as a verdict."""
         self.begin_anew()
         self.answers(*more)
         self.assertEqual(str(raised(Unchecked, ask)), words)

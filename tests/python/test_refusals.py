@@ -1,4 +1,4 @@
-"""A description that is refused: every command reports the place, the sentence and the advice, in the same words."""
+"""Every command reports a refused description in the same words, with the place, the sentence and the advice."""
 
 import contextlib
 import io
@@ -40,7 +40,7 @@ def test_each_command_says_the_same(text: str, words: str | None, tmp_path: path
     with pytest.raises(Refused) as sorted_out:
         game_of(file)
     held = Holding(text, str(file)).held(json.dumps({}))[1]
-    # If each atomic sentence is looked up by itself, another sentence makes a goal depend on moves.
+    # In the last description, the interpreter of ground rules looks up each atomic sentence by itself, and reports a different sentence.
     if words:
         assert (str(sorted_out.value), held) == (words, f"not followed: {file}: {words}")
     assert held.startswith(f"not followed: {file}: line ")

@@ -1,5 +1,5 @@
 """Competitions by rounds, in a directory: each round follows from the records of the previous one, and any other schedule is refused. The referee is
-fake, and the records have only the keys that results need."""
+fake, and the records have only the keys that determine a result."""
 
 import json
 import pathlib
@@ -275,8 +275,8 @@ class ByRounds(unittest.TestCase):
         self.assertEqual(self.read().matches, plan.matches)
 
     def broken_off(self, form):
-        """Begins a competition in its own directory, in which `again` was interrupted before it wrote the schedule. Returns the plan before that, and
-        the id of the rematch."""
+        """Makes a competition in which `again` was interrupted before it wrote the schedule. Returns the plan before that, and the id of the
+        rematch."""
         self.setUp()
         self.write(4, form)
         self.play(plan := self.make())
@@ -338,7 +338,7 @@ class ByRounds(unittest.TestCase):
         self.assertEqual((len(set(ids)), [found[:8] for found in ids]), (4, [f"cup-00{at}-" for at in range(1, 5)]))
         for found in ids:
             self.assertRegex(found, r"\Acup-00\d-[a-z2-7]{12}\Z")
-        # The same key gives the same ids if the schedule was lost, if it grows, or if there is a rematch.
+        # With the same key, the ids stay the same if the schedule is lost, if it grows, or if a match is played again.
         self.folder.schedule.unlink()
         self.assertEqual([match.id for match in self.make().matches], ids)
         self.play(plan)

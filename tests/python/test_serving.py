@@ -46,8 +46,7 @@ class Served(unittest.TestCase):
     NAMES = ORIGINS = ()
 
     def setUp(self):
-        # On a busy computer, reading the records and asking the referee may take a long time. These tests do not wait for them, and do not fail
-        # because of them.
+        # On a busy computer, reading the records and asking the referee may take a long time, for which the tests neither wait nor fail.
         self.enterContext(patch.object(live, "clock", lambda: 1_000.0))
         for name, value in (("SHARE", 0), ("REFEREE_SHARE", 0), ("READING", 1e9)):
             self.enterContext(patch.object(live, name, value))
@@ -173,7 +172,7 @@ class Pages(Served):
         log = begin(self.plan, match, started(match))
         self.look()
         self.assertIn("before turn 1", self.page("/index.html"))
-        # The site cannot look between the last answer of a turn and the first one of the next.
+        # The log gets the last answer of a turn and the first answer of the next turn at once.
         self.say(log, self.play(match, 2, "NIL", ["(take 2)", "noop"]) + self.play(match, 3, "((take 2) noop)", ["noop"]))
         self.assertIn(f"after turn 1; blue to move: {match.players[1]} (", text_of(parsed(self.page("/index.html"))))
         self.assertIn("After turn 1: blue to move", self.page(f"/matches/{match.id}.html"))
@@ -272,7 +271,7 @@ class Pages(Served):
             self.site.reader.update_record(self.site.reader.unread.popleft())
             self.site.next_tables = 0.0
             self.look()
-            # Ratings from a part of the records are not shown, and may take a long time.
+            # `serve` does not show ratings that lack some of the records.
             self.assertEqual([row[-1] for row in rows_of(parsed(self.page("/")).find(id="standings"))[1:]], ["none"] * 2)
         self.site.next_tables = 0.0
         self.look()
@@ -394,14 +393,14 @@ class Pages(Served):
         self.assertIn("0 matches are open, 6 are waiting.", self.page("/"))
 
     def test_players_that_were_restarted_are_named_once_that_says_nothing_of_a_turn(self):
-        """A dead player does not answer. The other players of the turn must not learn that."""
+        """The other players of the turn must not learn that a player is dead."""
         commands = (Mock(restart=WHEN_DEAD), Mock(restart=EACH_MATCH), None)
         players = tuple(dataclasses.replace(player, command=command) for player, command in zip(self.plan.competition.players, commands))
         self.plan.competition = dataclasses.replace(self.plan.competition, players=players)
         match = self.plan.matches[0]
         log = begin(self.plan, match, started(match) + self.play(match, 2, "NIL", ["(take 1)", "noop"]))
         self.write_journal([f"restart {other.id} {name}: process 7, port 8" for other, name in zip(self.plan.matches[1:], ("ann", "ann", "bob"))])
-        # The page does not show it either if `serve` starts within the turn, or if the end of the previous turn is read in the same update.
+        # The page does not show the restart either if `serve` starts during the turn, or if the same update reads the end of the previous turn.
         moment = itertools.count()
         self.enterContext(patch.object(live, "clock", lambda: next(moment) / 1_000))
         self.site = self.server.site = LiveSite(self.plan, Referee(program()), lambda: self.plan)
@@ -463,7 +462,7 @@ class Delayed(Served):
         self.look()
 
     def look_at(self, seconds):
-        """Reads the directory this many seconds later. Returns how many matches are open and how many are over according to the first page."""
+        """Reads the directory this many seconds later. Returns the numbers of open and of finished matches on the first page."""
         self.moment += seconds
         self.look()
         first = self.page("/")
@@ -477,7 +476,7 @@ class Delayed(Served):
             self.assertEqual(is_shown(), expected, seconds)
 
     def test_everything_is_shown_late(self):
-        # The log and the record may have any time of day, or none.
+        # The log and the record may have a wrong time of day, or none.
         for time_of_day in (None, 0, 10**12, 10**14):
             with self.subTest(time_of_day):
                 self.begin_late()
@@ -636,7 +635,7 @@ class Refused(Served):
                     asking.sendall(line + b" HTTP/1.1\r\n\r\n")
                     with contextlib.suppress(ConnectionError):
                         self.assertEqual(asking.recv(100), b"")
-                # A failed task is logged once it is collected.
+                # asyncio logs a failed task when the task is garbage-collected.
                 self.in_loop(gc.collect)
 
     def test_head_is_answered_like_get_without_a_body(self):
@@ -653,7 +652,7 @@ class Refused(Served):
             self.assertEqual((heads[0], body), (heads[1], b""), path)
 
     def test_other_names(self):
-        # A site whose name leads to this address does not get the pages of a server that only this computer can reach.
+        # Only this computer can reach the server. A site whose name resolves to this address must not get the pages.
         self.assertEqual(self.ask("/", Host="evil.example")[0], 403)
         for host in ("localhost:80", "127.0.0.1", "[::1]:80"):
             self.assertEqual(self.ask("/", Host=host)[0], 200, host)

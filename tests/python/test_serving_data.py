@@ -1,4 +1,5 @@
-"""Data of `serve` for other programs: JSON, events and numbers. Other sites may embed its pages only if this is allowed, with and without a proxy."""
+"""Data of `serve` for other programs: JSON, events and numbers. Other sites may embed the pages only if the host allows this, with and without a
+proxy."""
 
 import dataclasses
 import errno
@@ -125,7 +126,7 @@ class Data(Served):
         version = re.search(rb"id: (\d+)", feed.readline())[1].decode()
         missed = self.feed(f"?after={version}")
         self.assertEqual([row["id"] for row in self.next_event(missed)["matches"]], [self.plan.matches[1].id])
-        # An unknown version leads to the current one.
+        # After an unknown version, the client is sent the current one.
         self.assertTrue(self.next_event(self.feed("?after=1"))["reload"])
 
     def test_what_is_not_there(self):
@@ -150,7 +151,7 @@ class Front(Served):
         self.assertEqual(self.opened("/cup", Host="localhost").getheader("Location"), "/cup/")
 
     def test_behind_the_proxy_of_the_document(self):
-        """nginx has the server of docs/SERVING.md, except for the ports."""
+        """nginx is configured as in docs/SERVING.md, except for the ports."""
         server = re.search(r"(?ms)^    server \{.*?^    \}", (TOP / "docs/SERVING.md").read_text())[0]
         # nginx takes over a socket that is already listening, as it does when it replaces another nginx.
         listening = self.enterContext(socket.create_server(("127.0.0.1", 0)))

@@ -1,5 +1,5 @@
-"""The pages of ggp-show-record: they have each turn, state, move and mark of the record, all text as text, and nothing that a browser would load or
-run except the page's own script. The command refuses other files, and prints the reason."""
+"""The pages of ggp-show-record: they show each turn, state, move and mark of the record, all text as text. A browser loads and runs nothing but the
+page's own script. The command refuses other files, and prints the reason."""
 
 import copy
 import json
@@ -53,7 +53,7 @@ ATTRIBUTES = {"lang", "charset", "name", "http-equiv", "content", "class", "id",
 
 
 def made(record):
-    """Returns the page of a record, or of these bytes, or the error."""
+    """Returns the page of a record or of these bytes, or the error."""
     data = record if isinstance(record, bytes) else json.dumps(record).encode()
     try:
         return show.page_of(show.read_record(data)), ""
@@ -75,7 +75,7 @@ def texts_of(record):
 
 
 def parts_of(record: dict) -> tuple[dict, dict]:
-    """Returns the contents of the page of the record, and the expected contents."""
+    """Returns the actual and the expected contents of a record's page."""
     page, error = made(record)
     assert not error and page.isascii()
     shown = parsed(page)

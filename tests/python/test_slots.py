@@ -1,4 +1,4 @@
-"""Which matches may begin: with players that do not answer in several matches at once, and with a long queue in which no match can begin."""
+"""Which matches may begin, if players do not answer in several matches at once, and if no match of a long queue can begin."""
 
 import math
 import unittest
@@ -19,7 +19,7 @@ class Queue(unittest.TestCase):
         self.waiting = planned(self.competition, {"one": 2})
 
     def begins(self, now):
-        """Returns whether a match begins, and how many matches were considered."""
+        """Returns whether a match can begin, and the number of matches that were considered."""
         looked, has_free = [], type(self.slots).has_free
 
         def counted(match, now):
@@ -33,7 +33,7 @@ class Queue(unittest.TestCase):
         while (found := self.begins(1.0))[0]:
             last = found[0]
         self.assertEqual(found, (None, 0))
-        # Two players who share no waiting match are free.
+        # Two free players that have no waiting match in common.
         self.slots.free = dict.fromkeys(self.slots.free, 0) | {"p0": 1, "p1": 1}
         self.waiting = [match for match in planned(self.competition, {"one": 2}) if set(match.players) != {"p0", "p1"}]
         self.assertEqual(self.begins(1.0), (None, 0))

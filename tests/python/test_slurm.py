@@ -102,14 +102,14 @@ class Cluster:
         return found
 
     def kill(self, node):
-        """Kills a node with all of its processes."""
+        """Kills all processes of a node."""
         self.started[1 + NODES.index(node)].kill()
         jobs = self.processes(node)
         for process in {parent for _, parent in jobs} | {process for process, _ in jobs}:
             self.send(process, signal.SIGKILL)
 
     def cut_off(self, node):
-        """Blocks all messages to and from a node, whose processes continue."""
+        """Blocks all messages to and from a node. Its processes continue."""
         self.started[1 + NODES.index(node)].send_signal(signal.SIGSTOP)
         jobs = self.processes(node)
         for process in {parent for _, parent in jobs} - {process for process, _ in jobs}:

@@ -1,5 +1,4 @@
-"""A player that reads all live pages during an open turn before it answers learns nothing about the others' answers, not even that they have
-answered."""
+"""During an open turn, the live pages show a player nothing about the others' answers, not even that they have answered."""
 
 import contextlib
 import dataclasses
@@ -26,7 +25,7 @@ from players import TestPlayer
 from support import GAMES, InFolder, program, start
 from test_serving import Served
 
-# The possible answers: a move has text that occurs nowhere else. Each replaced move is followed by a legal one, so that no role is retired.
+# The possible answers: a legal move contains text that occurs nowhere else. A legal move follows each replaced one, so that no role is retired.
 LEGAL = "(say zq{0}x{1})"
 ILLEGAL = ("(bad zq{0}x{1})", "zq{0}x{1} ((", "(say zq{0}x{1})?", SILENT, Missed("CE (no connection)"), "lost (zq{0}x{1})", "zq{0}x{1}".ljust(400, "y"))
 ANSWERS = (LEGAL, "; zq{0}x{1}\n(say zq{0}x{1})", *(answer for illegal in ILLEGAL for answer in (illegal, LEGAL)))
@@ -73,7 +72,7 @@ class Spying(Served):
 
     def assert_nothing_is_shown_before_the_last(self, lines):
         """Writes these answers of a round to the log one by one. Returns all pages after the last one."""
-        # A board is drawn only after its page was opened once.
+        # `serve` draws a board only once somebody has opened its page.
         self.all_pages()
         self.site.update()
         before = self.all_pages()
@@ -125,7 +124,7 @@ class Spying(Served):
 @dataclass(frozen=True)
 class Step:
     """A step of a match: a role answers, and events follow until the next step. `text` is the line that the log gets for the answer, or empty if the
-    line is lost. `needed` is the number of answers to the round. In the events, time passes, `serve` may restart, and the directory is read, with or
+    line is lost. `needed` is the number of answers to the round. The events are: time passes, `serve` restarts, or the directory is read, with or
     without questions to the referee."""
 
     run: int

@@ -31,7 +31,7 @@ def command(script, **more):
 
 
 def player(room, script, info=ANSWERS, **more):
-    """Returns a player with a script, and a fake `info` command that reports whether the player answers."""
+    """Returns a player that runs a script, with a fake `info` command that reports whether the player answers."""
     folder = Folder(room)
     folder.make(folder.players)
     words = ["test", "-s", str(folder.players / "ann.log")] if info is PRINTED else info
@@ -49,7 +49,7 @@ def process_of(started):
 
 
 def run_for(*players_and_matches):
-    """Prepares a player for each of these matches, and then ends the player. Returns its processes."""
+    """Gets a player ready for each of these matches, and then ends the player. Returns its processes."""
     async def play():
         started, *matches = players_and_matches
         found = []
@@ -463,7 +463,7 @@ class Started(InFolder):
             self.assertEqual(run(self.folder, *words)[::2], (0, ""))
 
     def ended(self, number):
-        """Plays until a match that does not end has begun, and sends `play` a signal. Returns the output and the players of `play`."""
+        """Starts `play`, waits until a match that does not end has begun, and sends a signal. Returns the output and the players of `play`."""
         waiting = program_but(self.folder / "waiting", '"$1" = run', "exec sleep 3600")
         playing = start(self.folder, "play", "--program", waiting)
         self.assertEqual(playing.stdout.readline(), "begin cup-001 countdown ann bob\n")

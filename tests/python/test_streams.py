@@ -98,7 +98,7 @@ def test_what_is_said(capsys):
 
 @pytest.mark.parametrize("call", ["say('text')", "put_bytes(b'text')"])
 def test_an_output_that_is_full(call):
-    # Later output is discarded: otherwise Python would report an error when it exits.
+    # The command discards later output; otherwise Python would report an error when it exits.
     script = f"from ggp_tools.streams import *\ntry:\n    {call}\nexcept OSError as why:\n    report(error_words(why))\nprint('more')\nsys.stdout.flush()"
     script = script if call.startswith("say") else script.partition("print(")[0]
     with open("/dev/full", "wb") as full:

@@ -86,8 +86,8 @@ class Tables(unittest.TestCase):
         self.assertIn("* m does not count: m2 replaces it: the host's cable\n", files["table.txt"].decode())
 
     def by_rounds(self, kind, rounds, results):
-        """Returns the tables of a competition in rounds. A result has the players of a match, the goals, the round, and the match that replaces
-        it."""
+        """Returns the tables of a competition in rounds. Each result is given by the players of a match, the goals, the round, and the match that
+        replaces it."""
         players = [(name, f"h:{at + 1}") for at, name in enumerate(NAMES[:3])]
         found = read_competition(toml(players, [("two", "f"), ("other", "f")], f'kind = "{kind}"' + "\nrounds = 2" * (kind == "swiss")).encode())
         made = [replace(played, match=replace(played.match, round=number, again=again)) for played, number, again in ((result(names, goals), number, again) for names, goals, number, again in results)]

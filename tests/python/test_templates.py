@@ -23,7 +23,7 @@ HARMLESS = "name"
 
 
 def values_of(text: str) -> dict[str, object]:
-    """Returns values for macros by the names of their arguments. This text stands in for every text from outside."""
+    """Returns values for the arguments of macros, by name. Every text from outside is this text."""
     match = Value(id=text, game=text, players=(text, text), start=1, play=2)
     status = Value(players=((text, text), (text, text)), text=text, since=1.0, clock=text, is_of_players=True, mover=text)
     found = Value(boards=markupsafe.Markup("<p>made</p>"), terms=[text, text], before={text}, gone=[text], is_empty=True, more=2)
@@ -106,7 +106,7 @@ def test_a_macro_has_all_texts_as_text(name: str, text: str) -> None:
 
 
 def whole_pages(text: str) -> list[bytes]:
-    """Returns each kind of page with this text in all places."""
+    """Returns each kind of page, with this text wherever a page shows text from outside."""
     record = json.loads((GAMES / "tictactoe.out").read_text().splitlines()[-1])
     record |= {"matchId": text, "players": [text] * 2, "roles": [text] * 2, "startMarks": [text] * 2, "endMarks": [text] * 2}
     record |= {"moves": [[text] * 2 for _ in record["moves"]], "errors": [[text] * 2 for _ in record["errors"]], "states": [[text] for _ in record["states"]]}

@@ -138,7 +138,7 @@ class All(WithProgram):
     def all(self, text, jobs=2, size=8, program=None):
         """Returns the output, the messages and the error for this input."""
         written, said, reads = [], [], iter([text[at : at + 3] for at in range(0, len(text), 3)])
-        # A thread of an earlier call may still read. Such a thread must not take the input of this call.
+        # A thread of an earlier call may still be reading, and must not take the input of this call.
         before = set(threading.enumerate())
         with contextlib.ExitStack() as stack:
             stack.enter_context(reading(lambda *_: b"" if threading.current_thread() in before else next(reads, b"")))
@@ -200,7 +200,7 @@ class All(WithProgram):
                 yield b"ok\n"
 
         def checked(words, piece):
-            # Each check waits until all that may be read ahead has been read.
+            # Each check waits until the command has read ahead as far as it may.
             with changed:
                 changed.wait_for(lambda: read == count or read - written >= jobs + 2)
             return verify_many.Checked(b"lawful\n")
@@ -266,7 +266,7 @@ class Commands(WithProgram):
     def test_how_a_run_ends(self):
         words, more = ("--jobs", "3", "--piece", "9", "p", "--"), (["p", "verify", "--lines"], 3, 9)
         self.assertEqual(self.ended(*words), (0, more, b"", []))
-        # Ctrl-C ends the command as it ends the program, unless the signal is ignored.
+        # Ctrl-C ends the command by the signal, as it does the program, unless the signal is ignored.
         self.assertEqual(self.ended(*words, handler=signal.default_int_handler)[3], [(signal.SIGINT, signal.SIG_DFL)])
         for fault, said, status in ((Fault(b"no\n", 1), b"no\n", 1), (Fault(b"bad\n"), b"bad\n", 2), (MemoryError(), b"ggp_manager: want of memory\n", 2)):
             self.assertEqual(self.ended(*words, fault=fault), (status, more, said, []))

@@ -30,7 +30,7 @@ class Limits(Served):
             time.sleep(0.01)
 
     def hold(self, count, is_idle):
-        """Opens this many connections, with or without a request, until the server knows them."""
+        """Opens this many connections, with or without a request, and waits until the server has accepted them."""
         held = [self.connect() for _ in range(count)]
         self.until(lambda: len(self.visitors.connections) == count)
         for connection in self.visitors.connections if not is_idle else ():
@@ -43,7 +43,7 @@ class Limits(Served):
         for connection in held:
             connection.close()
         self.until(lambda: not self.visitors.connections)
-        # Visitors with event streams leave some connections free.
+        # Visitors with event streams cannot take all connections.
         page = self.page("/")
         answers = [self.events(page) for _ in range(self.MOST)]
         self.assertEqual([answer.status for answer in answers], [200] * 7 + [503])
@@ -56,7 +56,7 @@ class Limits(Served):
 
     def test_half_requests_of_an_address_give_way(self):
         half = self.hold(self.MOST, is_idle=True)
-        # New visitors are served, and the oldest connections give way.
+        # New visitors are served, and the oldest connections are closed.
         for at in range(3):
             self.assertEqual(self.ask("/")[0], 200)
             self.assertEqual(half[at].recv(100), b"")
@@ -84,7 +84,8 @@ class Limits(Served):
             self.assertLess(taken, 64 << 20)
 
     def pieces_taken(self, seconds):
-        """Returns how many pieces of an answer are sent to a visitor that needs these seconds for them, by the clock of the event loop."""
+        """Returns the number of pieces of an answer that are sent to a visitor that needs this many seconds for each, by the clock of the event
+        loop."""
         loop, now, taken = asyncio.new_event_loop(), [0.0], []
 
         async def write(piece):
@@ -125,7 +126,7 @@ class Limits(Served):
         with patch.object(self.site, "page", page):
             for at in range(20):
                 self.ask_and_leave(f"/{at}")
-            # The first request was in progress. The thread does no work for the other requests.
+            # The thread was already working for the first request. It does no work for the others.
             held.set()
             self.assertEqual(self.ask("/last")[0], 404)
         self.assertEqual(made, ["/0", "/last"])
@@ -247,7 +248,7 @@ class Long(Served):
             match = self.end_match()
             statuses = [self.ask(f"/matches/{match}{part}.html")[0] for part in ("~5", "", "~1", "~2", "~4", "~5", "~99999")]
             self.assertEqual((statuses, read.call_count), ([404, *[200] * 4, 404, 404], 1))
-            # The page of another record has other parts.
+            # The page of another record is split into parts differently.
             self.end_match(moves=[], errors=[], states=[["(heap 3)"]])
             self.assertEqual([self.ask(f"/matches/{match}~{part}.html")[0] for part in (1, 2)], [200, 404])
 

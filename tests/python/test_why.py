@@ -131,7 +131,7 @@ class Why(InFolder):
         shutil.unpack_archive(self.folder / "cup.tar.gz", self.folder / "there")
         told = self.why("cup-001")
         self.assertEqual(run(self.folder, "why", "there/cup", "cup-001"), (0, told, ""))
-        # The referee could not read the clock, and the directory has no journal.
+        # A log without times (the referee could not read the clock), and a directory without a journal.
         (self.folder / "play.log").unlink()
         log = self.folder / "logs/cup-001.jsonl"
         log.write_text(re.sub('"time":[0-9]+', '"time":null', log.read_text()))
@@ -158,7 +158,7 @@ class Why(InFolder):
         for message, seconds in (("START", 20), ("turn 3: PLAY", 30), ("STOP", 30)):
             self.assertIn(f"{message} brought {SILENT} after 5 ms; TO: no complete answer within {seconds} s", said)
         self.assertIn("turn 3: PLAY brought CE (no connection) after", said)
-        # If a player sends exactly this text, the player has answered.
+        # If a player sends exactly this text, it counts as an answer.
         text = "IL ?: the answer is not one expression, or too long: a second expression begins at column 4; its first legal move was played"
         self.assertIn(f"turn 4: PLAY was answered `{SILENT}` after 5 ms; {text}", said)
 
@@ -194,7 +194,7 @@ class Why(InFolder):
         self.assertEqual([note.text for note in self.explained(names=("cup-001", "bob"), round=1).notes()], [lines[at] for at in (0, 3, 5, 6, 7)])
 
     def said_of(self, notes: str, log: str, *players: str) -> str:
-        """Returns the report about players from a journal and a log. `MATCH` in the notes means the match."""
+        """Returns the report about players from a journal and a log. `MATCH` in the notes is replaced by the id of the match."""
         plan = plan_in(str(self.folder), ["ann", "bob"])
         match = plan.matches[0]
         plan.folder.journal.write_text(notes.replace("MATCH", match.id))

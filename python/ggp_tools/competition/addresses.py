@@ -1,4 +1,4 @@
-"""The addresses of the players: which ones the system refuses, and which ones lead to the same player."""
+"""The addresses of the players: which addresses the system refuses, and which lead to the same player."""
 
 import errno
 import ipaddress
@@ -9,7 +9,7 @@ from collections.abc import Iterable, Iterator
 
 from ggp_tools.competition.competition_file import Competition, Mistake, Player
 
-# All names are looked up within this many seconds in total, because a resolver may not answer.
+# All lookups together may take this many seconds, because a resolver may not answer.
 SECONDS = 10
 LOOPBACK = {4: "127.0.0.1", 6: "::1"}
 # An address, with the interface if it needs one, and a port.
@@ -34,7 +34,7 @@ def addresses_of(host: str, flags: int = 0) -> list[str]:
 
 
 def looked_up(hosts: Iterable[str]) -> dict[str, list[str]]:
-    """Returns the addresses of hosts. A name whose lookup takes too long has none."""
+    """Returns the addresses of hosts. A name has no addresses if its lookup takes too long."""
     addresses = {host: addresses_of(host, socket.AI_NUMERICHOST) for host in hosts}
 
     def look_up(name: str) -> None:
@@ -92,7 +92,7 @@ def written(name: str, places: list[Place]) -> str:
 
 
 def mistakes_of_addresses(competition: Competition, places_of: dict[str, list[Place]]) -> Iterator[Mistake]:
-    """Yields a mistake for each player that cannot be reached at its addresses, and for each one that shares an address with another."""
+    """Yields a mistake for each player that cannot be reached at its addresses, and for each player that shares an address with another."""
     known: dict[Place, Player] = {}
     for player in competition.players:
         places, port = places_of.get(player.name, []), player.address.rpartition(":")[2]

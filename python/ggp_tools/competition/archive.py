@@ -29,7 +29,7 @@ from ggp_tools.referee import VERSION_LINE, Referee, Unchecked, has_events
 SUMS, VERSION, HOW, GAPS = "SHA256SUMS", "VERSION", "CHECK.txt", "GAPS.tsv"
 # The maximum length of VERSION, and the maximum number of errors that are reported for an archive.
 MOST_OF_VERSION, MOST_FAULTS = 100, 100
-# These errors come from this computer, and say nothing about an archive.
+# Errors of this computer, which show nothing about an archive.
 SHORTAGES = errno.ENOSPC, errno.EDQUOT, errno.EIO, errno.EMFILE, errno.ENFILE, errno.ENOMEM
 HOW_TO = """How to check this competition.
 
@@ -150,7 +150,7 @@ def faults_of_files(plan: Plan, referee: Referee, results: list[Result]) -> Iter
     """Yields an error for each file that is missing, that `publish` would write with different contents, or that it would not write at all."""
     folder = plan.folder
     files = {name: file for name, file in files_below(folder.path).items() if not name.startswith("pages/")}
-    # The pages of the archive are renamed, because they are made again. No file of an archive has this name.
+    # The pages are made again, so those of the archive get a name that no file of an archive has.
     archived = folder.path.parent / "pages of the archive"
     os.rename(folder.pages, archived) if folder.pages.is_dir() else archived.mkdir()
     files |= {f"pages/{name}": file for name, file in files_below(archived).items()}
@@ -192,8 +192,8 @@ def version_of(folder: pathlib.Path) -> str:
 
 
 def check_archive(path: pathlib.Path, referee: Referee) -> tuple[list[str], str]:
-    """Returns the errors in an archive, as lines of printable ASCII of limited length. If there are none, also returns a sentence that says what was
-    checked."""
+    """Returns the errors in an archive, as lines of printable ASCII of limited length. If there are none, also returns a sentence about the
+    checks."""
     try:
         with tempfile.TemporaryDirectory() as empty:
             try:
@@ -213,7 +213,7 @@ def check_archive(path: pathlib.Path, referee: Referee) -> tuple[list[str], str]
 
 
 def compared_side_by_side(file: pathlib.Path, records: Sequence[bytes]) -> list[str]:
-    """Returns how each record compares with a description. Each of several processes compares a part of the records."""
+    """Returns the result of comparing each record with a description. Each of several processes compares a part of the records."""
     size = -(-len(records) // PROCESSORS)
     parts = [records[at : at + size] for at in range(0, len(records), size)]
     with concurrent.futures.ThreadPoolExecutor(PROCESSORS) as pool:
@@ -244,7 +244,7 @@ def refuse(faults: Iterable[str]) -> None:
 
 
 def what_is_right(path: pathlib.Path, empty: pathlib.Path, referee: Referee) -> str:
-    """Unpacks an archive into an empty directory, checks it, and returns a sentence that says what was checked. Raises `Refused` with all errors."""
+    """Unpacks an archive into an empty directory, checks it, and returns a sentence about the checks. Raises `Refused` with all errors."""
     folder = unpack(path, empty)
     made_by = version_of(folder)
     refuse(faults_of_sums(folder))

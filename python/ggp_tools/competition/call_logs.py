@@ -23,17 +23,17 @@ if TYPE_CHECKING:
 OPENING = re.compile(rb"0\t(?:open|(strict)) ([^ \t]+) \d+ (\d{1,5}) (\d{1,5})([^\t]*)\topened")
 NEXT = re.compile(rb"(\d+)\tnext ([^ \t]+) (\d+)\t(?:owe (\d+) ([^ \t]+) ?([^\t]*)|(hold \d+|over))")
 ANSWER = re.compile(rb"(\d+)\t(submit|miss) ([^ \t]+) (\d+) (\d+)(?: ([^\t]*))?\ttaken")
-# A role that waits in a round asks every two seconds, more often at first, and up to twice more for each role that wakes it. So it gets
-# fewer `hold` replies than the sum of three numbers: the seconds of the clock, twice the number of roles, and this number. This number allows for ten
-# minutes in which the computer delays the referee.
+# While a role waits in a round, it asks every two seconds, more often at first, and up to twice more for each role that wakes it. So it gets fewer
+# `hold` replies than the seconds of the clock, plus twice the number of roles, plus this number. The number suffices for a computer that delays the
+# referee by ten minutes.
 MOST_HOLDS = 300
 # The history of the referee's desk has at most this many calls.
 MOST_CALLS = 1_000_000
 # The match of any call.
 MATCH = re.compile(rb"\d+\t[a-z]+ ([^ \t]+)[ \t]")
 ESCAPED = re.compile(r"\\x([0-9a-f]{2})")
-# The parts of the referee's reasons for an error (docs/ERRORS.md), with N for numbers. For a failed read, the kind of the failure follows as one more
-# part, which is one word.
+# The parts of the referee's reasons for an error (docs/ERRORS.md), with N for numbers. After a failed read, the kind of the failure follows in one
+# word.
 REASONS = {
     *("the host has no address", "no connection", "no answer in time", "the answers of the match are too long", "a write failed", "a read failed"),
     *("the head is not valid HTTP", "the status is not N", "the status is N, not N", "the status is N, which announces an answer and is none"),
@@ -72,7 +72,7 @@ class Asked:
         return match == self.match and int(line) == int(role) + 1 and role not in self.over
 
     def may_hold(self, role: bytes, hold: bytes) -> bool:
-        """Counts a reply that makes a role wait. Returns whether a referee lets the role ask this often in this round."""
+        """Counts a reply that makes a role wait. Returns whether a referee would ask this often for the role in this round."""
         before, count = self.holds.get(role, (hold, 0))
         self.holds[role] = hold, count + 1 if before == hold else 1
         return self.holds[role][1] <= MOST_HOLDS + self.clocks[hold != b"hold 0"] + 2 * self.roles
@@ -99,7 +99,7 @@ def shown(text: bytes) -> str:
 
 
 def fault_of_account(account: bytes) -> str | None:
-    """Returns the first line of a call log that is not a call of a match's referee, or None."""
+    """Returns the first line of a call log that is not a call by the match's referee, or None."""
     lines = lines_of(account)
     first = next(lines, b"")
     opening = OPENING.fullmatch(first)
@@ -156,7 +156,7 @@ def exchanges(match: "Match", roles: Sequence[str], account: bytes) -> list[list
 
 
 def unpublished(log: bytes, run: Sequence[Event]) -> str | None:
-    """Returns an error about the first line of a match log that `publish` would leave out or write differently, or None."""
+    """Returns an error about the first line of a match log that `publish` would omit or change, or None."""
     lines = itertools.zip_longest(io.BytesIO(log), map(line_of, run), fillvalue=b"")
     number, line = next(((number, given) for number, (given, kept) in enumerate(lines, 1) if given != kept), (0, b""))
     text = message_of(line.decode("ascii", "replace").rstrip())

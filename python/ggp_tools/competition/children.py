@@ -1,4 +1,4 @@
-"""The processes that play and check matches, and send ABORT. They end with this process, however it ends."""
+"""The processes that play and check matches, and send ABORT. They always end when this process ends."""
 
 import asyncio
 import contextlib
@@ -18,7 +18,8 @@ from ggp_tools.referee import Referee
 MOST_AT_ONCE = 1 << 16
 # At most this many players are sent ABORT at the same time.
 MOST_ABORTS = 1_024
-# After the time limit of a process, its output is awaited for this many more seconds: SOON if the process seems to be running, LATE if it has ended.
+# After its time limit, a process that seems to be running has SOON more seconds to send output. If it has ended, its output may take LATE more
+# seconds to arrive.
 SOON, LATE = 0.1, 10
 
 
@@ -34,7 +35,7 @@ class Watched(asyncio.subprocess.SubprocessStreamProtocol):
         super().process_exited()
 
     def pipe_connection_lost(self, fd: int, why: Exception | None) -> None:
-        """Does nothing when a process closes its input, because Python would report this as an error."""
+        """Ignores that a process has closed its input, which Python would report as an error."""
         super().pipe_connection_lost(fd, why if fd else None)
 
 
@@ -62,7 +63,7 @@ async def started(words: list[str], ends_itself: bool = False) -> AsyncIterator[
 
 @dataclass
 class Done:
-    """A process that has ended, with its standard output and error. Its status is None if its time ran out."""
+    """A process that has ended, with its standard output and error. The status is None if the process ran out of time."""
 
     status: int | None
     output: bytes
@@ -86,7 +87,7 @@ async def run(words: list[str], seconds: float | None = None) -> Done:
         talk = asyncio.create_task(process.communicate(b""))
         try:
             await asyncio.wait([talk], timeout=seconds)
-            # On a busy computer, this process may be late to notice that the other one has ended, or to read its output.
+            # On a busy computer, this process may be late to notice that the other process has ended, or to read its output.
             await asyncio.wait([talk], timeout=LATE if process.returncode is not None else SOON)
             streams = talk.result() if talk.done() else (b"", b"")
         finally:
@@ -105,7 +106,7 @@ async def is_answered(referee: Referee, match: str, place: str, slots: asyncio.S
 
 async def send_aborts(referee: Referee, places: dict[str, list[str]], seconds: float | None = None) -> dict[str, list[str]]:
     """Sends ABORT for matches that no referee plays any more, to many players at the same time. `places` has the addresses of the players by match
-    id. Returns, in the same form, the players that did not answer within `seconds`, or within 10 seconds if that is None."""
+    id. Returns the players that did not answer within `seconds` (10 if None), also by match id."""
     slots = asyncio.Semaphore(MOST_ABORTS)
     sent = {(match, place): asyncio.create_task(is_answered(referee, match, place, slots)) for match in places for place in places[match]}
     if sent:

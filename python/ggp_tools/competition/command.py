@@ -1,4 +1,4 @@
-"""The command line of `ggp_competition`. Modules that only some commands need are loaded only by these, because loading takes long."""
+"""The command line of `ggp_competition`. Because loading takes long, a command loads only the modules that it needs."""
 
 import argparse
 import os
@@ -92,7 +92,7 @@ def arguments(words: list[str]) -> argparse.Namespace:
 
 
 def write_matches(plan: Plan, results: list[Result], known: Known | None = None) -> None:
-    """Writes matches.jsonl. Reports which matches have no log, and therefore no times."""
+    """Writes matches.jsonl. Reports the matches that have no log, and therefore no times."""
     lacking = [result.match.id for result in results if not plan.folder.has_log(result.match.id)]
     if lacking[1:]:
         span = f"{len(lacking):,} matches from {lacking[0]} to {lacking[-1]}"
@@ -171,7 +171,7 @@ def not_played(plan: Plan) -> str:
 
 
 def growth(plan: Plan) -> str:
-    """Returns which matches a plan has added after matches were played."""
+    """Describes the matches that a plan has added since matches were played."""
     if plan.known is None:
         return ""
     new = plan.new_matches()
@@ -190,7 +190,7 @@ def run_again(asked: argparse.Namespace, referee: Referee) -> int:
 
 
 def error_of_pages(write: Callable[..., object], *arguments: object) -> str | None:
-    """Writes the pages. If that fails, returns the error instead of raising it, so that the matches can continue."""
+    """Writes the pages. Returns an error instead of raising it, so that the matches can continue."""
     try:
         write(*arguments)
         return None
@@ -310,7 +310,7 @@ def run_publish(asked: argparse.Namespace, referee: Referee) -> int:
     from ggp_tools.competition.archive import publish
     from ggp_tools.competition.packing import TooLarge
 
-    # No other run changes the plan until the archive is written.
+    # Locking keeps other runs from changing the plan until the archive is written.
     with held(asked.folder):
         plan = read_plan(asked.folder, referee)
         path, known = archive_path(plan, asked.to), Known(plan.folder.path)
@@ -318,7 +318,7 @@ def run_publish(asked: argparse.Namespace, referee: Referee) -> int:
         missing, left = len(without_record(plan, results)), rounds_left(plan)
         faults = []
         if missing and (is_faulty or not asked.gaps):
-            # A wrong record is not a gap: the match must be played again, or the record corrected.
+            # A wrong record is not a gap: you must play the match again or correct the record.
             faults = [f"{counted(missing, 'match', 'has', 'have')} no lawful record{'' if is_faulty else '; `--gaps` publishes the others'}"]
         elif left and not asked.gaps:
             faults = [f"{left} of {left + len(plan.rounds)} rounds are not planned yet; `--gaps` publishes without them"]
@@ -358,7 +358,7 @@ def run_check(asked: argparse.Namespace, referee: Referee) -> int:
 
 
 def check_one(archive: str, referee: Referee) -> bool:
-    """Checks an archive. Returns whether it has errors."""
+    """Checks an archive, and returns whether it has errors."""
     from ggp_tools.competition.archive import check_archive
 
     faults, said = check_archive(pathlib.Path(archive), referee)
@@ -387,7 +387,7 @@ COMMANDS = {
 def main() -> int:
     ready_streams()
     asked = arguments(sys.argv[1:])
-    # If an archive can't be read, or the check is interrupted, the archive has not failed the check.
+    # An archive that can't be read, or whose check is interrupted, has not failed the check.
     interrupted = 3 if asked.run is run_check else 1
     try:
         referee = Referee(find_program(asked.program))

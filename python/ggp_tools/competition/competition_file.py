@@ -16,7 +16,7 @@ PLAYER_NAME = re.compile(r"[A-Za-z0-9_.-]{1,64}")
 ADDRESS = re.compile(r"(\[[0-9A-Fa-f:.]+(?:%[A-Za-z0-9_.-]+)?\]|[A-Za-z0-9_.-]+):([0-9]{1,5})")
 MARK = b"\xef\xbb\xbf"
 CONTROL = re.compile(r"[\x00-\x1f\x7f-\x9f]")
-# A message has at most this many characters of a key or a value, and at most this many mistakes of a file are reported.
+# The maximum number of characters of a key or a value in a message, and of mistakes that are reported for a file.
 MOST_SHOWN, MOST_MISTAKES = 200, 100
 # The maximum size of the file.
 MOST_OF_COMPETITION = 4 << 20
@@ -121,7 +121,7 @@ class Section:
         self.mistake(key, f"expected {what}, found {spelled(found)}", line)
 
     def read(self, kind: type, **given: object) -> Any:
-        """Returns an object of this class. Each field is given, or read from its key."""
+        """Returns an object of this class. `given` has some of its fields; the others are read from their keys."""
         return kind(**{of.name: of.metadata["read"](self, of.name) for of in fields(kind) if of.name not in given and "read" in of.metadata}, **given)
 
     def part(self, key: str, kind: type, default: object = None) -> Any:
@@ -504,7 +504,7 @@ def root_of(data: bytes, mistakes: list[Mistake]) -> Section:
         raise Mistaken([Mistake(why.line, shown(why.key, MOST_SHOWN), shown(why.words, MOST_SHOWN))]) from None
 
 
-# Once matches have been played, competition.toml is read again as planned.toml.
+# Once matches have been played, planned.toml usually has the same bytes as competition.toml.
 @functools.lru_cache(2)
 def read_competition(data: bytes) -> Competition:
     """Returns the competition that a file describes. Raises `Mistaken` with all mistakes in the file."""

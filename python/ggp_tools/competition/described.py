@@ -16,14 +16,14 @@ from ggp_tools.referee import Unchecked
 # The time limit for each match.
 SECONDS = 60
 SAME, DIFFERENT, NOT_FOLLOWED = 0, 1, 3
-# How the line about a record begins.
+# The beginnings of the line about a record.
 IS_SAME, DIFFERS, IS_NOT_FOLLOWED = "the same: ", "differs: ", "not followed: "
 REPORT = "report-{}.tar.gz"
 
 
 def description_of(plan: Plan, game: Game) -> tuple[bytes | None, str | None]:
-    """Returns the description of a game and, if it cannot be used, the reason. The description is None if it has no variables or cannot be used, and
-    the reason is None if there is none. Only the version that `plan` has read can be used."""
+    """Returns the description of a game and, if it cannot be used, the reason. The description is None if it has no variables or cannot be used.
+    Without an obstacle, the reason is None. Only the version that `plan` has read can be used."""
     file = plan.folder.description(game)
     try:
         sums, text = sums_of(plan.folder.description_sums), file.read_bytes()

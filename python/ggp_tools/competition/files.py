@@ -19,7 +19,7 @@ if TYPE_CHECKING:
 UNFINISHED = ".unfinished-"
 # The file in the directory of an open match that names its players. They must be sent ABORT if no referee plays the match any more.
 PLAYERS = "players"
-# The stages of an open match. An empty file in its directory has the name of the stage.
+# The stages of an open match. The stage is the name of an empty file in the match's directory.
 STAGES = ASKING, PLAYING, CHECKING = "asking", "playing", "checking"
 # Enough open files for the maximum numbers of matches at the same time, and of connections.
 DESCRIPTORS = 16_384
@@ -98,11 +98,11 @@ def written_whole(path: pathlib.Path, is_lasting: bool = True, is_private: bool 
     """Yields a file to write to. The file has a temporary name until it is complete, so a partly written file never has the final name. With
     `is_lasting`, the file is on the disk at the end; otherwise it may be lost if the computer crashes. After an error, no file is left."""
     path = pathlib.Path(path)
-    # Two runs may write the same file, each under a different temporary name.
+    # Two runs may write the same file, so each uses a different temporary name.
     other = path.with_name(f"{UNFINISHED}{os.getpid()}-{path.name}")
     try:
         if is_private:
-            # Another user may have created a link with this name.
+            # Another user may have created a link with the temporary name.
             other.unlink(missing_ok=True)
         with open(other, "xb" if is_private else "wb", opener=private if is_private else None) as file:
             yield file
@@ -130,7 +130,7 @@ def write_whole(path: pathlib.Path, data: bytes, is_lasting: bool = True, is_pri
 def drop_unfinished(folder: pathlib.Path) -> None:
     """Deletes unfinished files of ended processes in a directory. This process must not be writing files in it."""
     for file in folder.glob(f"{UNFINISHED}*"):
-        # The name of the file has the number of the process that writes it.
+        # The name contains the id of the process that writes the file.
         number = file.name.removeprefix(UNFINISHED).partition("-")[0]
         if not (number.isdecimal() and number != str(os.getpid()) and os.path.exists(f"/proc/{number}")):
             file.unlink(missing_ok=True)
@@ -174,7 +174,7 @@ class Folder:
         self.rule_sums, self.description_sums = self.rules / "SHA256SUMS", self.rules / "DESCRIPTIONS.sha256"
         self.records, self.accounts, self.logs = (self.path / name for name in ("records", "accounts", "logs"))
         self.matches, self.pages = self.path / "matches.jsonl", self.path / "pages"
-        # The journal says what `play` has done, and when. The directory `players` has the logs of the players that `play` starts.
+        # The journal has the actions of `play`, with their times. The directory `players` has the logs of the players that `play` starts.
         self.journal, self.players = self.path / "play.log", self.path / "players"
 
     def rules_of(self, game: str) -> pathlib.Path:
@@ -226,13 +226,13 @@ class Folder:
             return b"", False
         with opened_file(self.log(match)) as file:
             if is_cut := (size := os.fstat(file.fileno()).st_size) > most:
-                # If the byte before the part is not the end of a line, the part begins within a line, and this line is left out.
+                # A part that does not follow the end of a line begins within a line, which is left out.
                 file.seek(size - most - 1)
                 file.readline(most)
             return file.read(most), is_cut
 
     def refuse_old_logs(self) -> None:
-        """Refuses a competition that was played with a version whose logs were not JSON."""
+        """Refuses a competition that was played with a version that did not write its logs as JSON."""
         if old := next(self.logs.glob("*.txt"), None):
             raise Refused(f"{old} is a log of ggp_manager 0.2.0", "use that version for this competition")
 

@@ -1,4 +1,4 @@
-"""Checks the description of a game: whether the referee accepts it, what is suspicious in it, and how random matches of it end."""
+"""Checks the description of a game: whether the referee accepts it, which sentences are suspicious, and how random matches end."""
 
 import argparse
 import pathlib
@@ -29,7 +29,7 @@ MOST_MATCHES, MOST_SEED = 10_000, 10**18
 LISTED, MOST_STATE = 10, 500
 # `plan` tries at most this many matches until one ends, and begins no turn after this many seconds.
 TRIAL_MATCHES, TRIAL_SECONDS = 5, 10
-# The last line of `ggp-instantiate` if its error says nothing about the description.
+# The last line of `ggp-instantiate` if the error is not one of the description.
 NO_VERDICT = re.compile(
     r"ggp-instantiate ended with status .*|ggp-instantiate: (error: |gringo is not installed|gringo took ).*|.*: can't open file .*"
     r"|([a-z_]+\.)*[A-Z]\w*(Error|Exception|Interrupt)\b.*"
@@ -98,7 +98,7 @@ def load(path: pathlib.Path, text: bytes, referee: Referee, limit: int) -> Rules
 
 
 def report_game(reporter: Reporter, asked: argparse.Namespace, referee: Referee, path: pathlib.Path, text: bytes) -> bool:
-    """Reports on a description. Returns whether the description is refused, or something is wrong with its matches."""
+    """Reports on a description, and returns whether it is refused or its matches show an error."""
     from ggp_tools.descriptions.refused import why_refused
 
     reporter.draw("the description")
@@ -142,7 +142,7 @@ def report_suspicions(reporter: Reporter, asked: argparse.Namespace, text: bytes
 
 
 def report_matches(reporter: Reporter, asked: argparse.Namespace, referee: Referee, text: bytes, rules: Rules) -> bool:
-    """Plays random matches, and reports how they ended. Returns whether anything is wrong with one of them, or whether none ended."""
+    """Plays random matches, and reports how they ended. Returns whether one of them showed an error, or none ended."""
     from ggp_tools.descriptions.goals import goals_said
     from ggp_tools.descriptions.random_matches import RandomMatches
 

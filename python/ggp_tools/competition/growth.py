@@ -1,8 +1,8 @@
 """The schedule of a competition that grows: after the first match you may add rounds, players, games and pairings, and order rematches. The planned
 matches stay as they are, and the new ones follow them.
 
-The schedule follows from all versions of competition.toml, and from the rematches. Each version adds the matches that it asks for and that the
-previous version did not ask for. If players are added, a game of more than two roles gets the matches in which a new player plays."""
+The schedule follows from all versions of competition.toml, and from the rematches. Each version adds the matches that it requests and that the
+previous version did not request. If players are added, a game of more than two roles gets the matches in which a new player plays."""
 
 import itertools
 from collections import Counter
@@ -23,7 +23,7 @@ ResultOf = Callable[[Match], Result | None]
 
 
 class Misfit(Exception):
-    """The reason why a schedule can't grow like this and, if there is one, the line of competition.toml with the error."""
+    """The reason why a schedule can't grow in this way, and the line of competition.toml with the error, if there is one."""
 
     def __init__(self, words: str, line: int = 0) -> None:
         super().__init__(words)
@@ -126,8 +126,8 @@ class Growing:
         self.asked: list[GameAndPlayers] = []
 
     def take(self, before: Competition | None, competition: Competition, until: int | None, most: int | None) -> None:
-        """Plans the matches that a version adds, and its rematches, up to `until` matches if another version follows. No round begins after `most`
-        matches."""
+        """Plans the matches that a version adds, and its rematches. If another version follows, plans up to `until` matches. No round begins after
+        `most` matches."""
         if is_by_rounds(competition):
             refuse_numbers(competition, self.roles)
             self.add_again(competition, until)

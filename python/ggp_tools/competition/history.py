@@ -16,8 +16,8 @@ HEAD = b"match\tinstead of\treason\n"
 LINE = re.compile(rb"([A-Za-z0-9_.-]{1,60})\t([A-Za-z0-9_.-]{1,60})\t([\x20-\x7e]{1,200})\n")
 KEY = re.compile(rb"[0-9a-f]{32}\n")
 EARLIER = re.compile(r"([1-9][0-9]{0,5})\.toml")
-# The maximum number of earlier versions, and the maximum number of bytes that they may have in total. Each takes seconds to read, and `plan` writes
-# one whenever the schedule grows: these are enough to add the maximum number of players one by one.
+# The maximum number of earlier versions, and the maximum number of bytes that they may have in total. Reading a version takes seconds, and `plan`
+# writes one whenever the schedule grows. This many suffice to add the maximum number of players one by one.
 MOST_EARLIER, MOST_OF_EARLIER = MOST_PLAYERS, 64 << 20
 
 
@@ -61,7 +61,7 @@ def seeded(competition: Competition, path: Path) -> Competition:
 
 def earlier_files(folder: Folder, *new: int) -> list[Path]:
     """Returns the earlier versions of competition.toml, the oldest first. Refuses too many files, or too many bytes in total. `new` has the sizes of
-    versions that are about to be added."""
+    the versions to be added."""
     found = [file for file in folder.earlier.iterdir() if not file.name.startswith(UNFINISHED)] if folder.earlier.is_dir() else []
     for file in found:
         if not EARLIER.fullmatch(file.name):

@@ -29,8 +29,8 @@ INTERVAL, ALIVE = 1.0, 10.0
 # The head of a request must arrive within HEAD seconds and have at most LONGEST_HEAD bytes. The visitor must accept each piece of data within PATIENCE
 # seconds, and the piece at byte N of an answer within PATIENCE + N / SLOWEST seconds after the beginning of the answer.
 HEAD, LONGEST_HEAD, PATIENCE, SLOWEST = 5, 16_384, 20, 1 << 15
-# How many connections may wait to be accepted, and how many are accepted at a time: few, so that the heads of earlier ones are read first. The head
-# of a request from a proxy shows the client, so until it is read, the connection may have to give way.
+# The number of connections that may wait to be accepted, and the number that are accepted at a time. This is small, so that the server first reads
+# the heads of earlier ones: the head of a request from a proxy shows the client, and until then the connection may be closed for another.
 BACKLOG, AT_A_TIME = 128, 4
 BUSY = b"HTTP/1.1 503 Service Unavailable\r\nRetry-After: 10\r\nContent-Length: 0\r\nConnection: close\r\n\r\n"
 HEADERS = {
@@ -60,7 +60,7 @@ class Connection(web.RequestHandler):
     __slots__ = ("visitors", "client", "is_idle", "left", "clock", "asking", "answer")
 
     def __init__(self, visitors: Visitors, server: web.Server) -> None:
-        # A compressed body would fill the memory, and bodies are not read.
+        # Bodies are not read, and decompressing one could fill the memory.
         loop = asyncio.get_running_loop()
         super().__init__(server, loop=loop, access_log=None, logger=SILENT, lingering_time=0, auto_decompress=False)
         self.visitors, self.client, self.is_idle, self.left = visitors, "", True, LONGEST_HEAD
@@ -152,7 +152,7 @@ class Server:
         answering, family = web.Server(self.answer), socket.AF_INET6 if ":" in address else socket.AF_INET
         listening = socket.create_server((address, port), family=family, backlog=BACKLOG, dualstack_ipv6=address == "::")
         self.listener = await asyncio.get_running_loop().create_server(lambda: Connection(self.visitors, answering), sock=listening, backlog=AT_A_TIME)
-        # `create_server` has limited the queue to the number of connections that the event loop accepts at a time.
+        # asyncio's `create_server` limits the queue to the number of connections that the event loop accepts at a time.
         listening.listen(BACKLOG)
         self.address, port, *_ = listening.getsockname()
         return self.address, port
@@ -169,7 +169,7 @@ class Server:
         return await asyncio.get_running_loop().run_in_executor(self.thread, function, *values)
 
     async def for_client(self, client: str, function: Callable[[str], Value], path: str) -> Value:
-        """Calls a function for a client in the site's thread. If the function returns another function, calls this one in the other thread. Only one call
+        """Calls a function for a client in the site's thread. If it returns another function, calls that function in the other thread. Only one call
         of each client waits for the threads, and only one call for a page that is computed from results."""
         is_long = path != FIRST and path[1:] in self.site.made
         async with self.turns.setdefault(client, asyncio.Lock()), self.long_turn if is_long else contextlib.nullcontext():
@@ -233,7 +233,7 @@ class Server:
             return await self.send(request, HTTPStatus.INTERNAL_SERVER_ERROR)
 
     def note_answer(self, connection: Connection, answer: bytes) -> None:
-        """Records the answer that is being sent. If all answers together are too long, this ends connections of the client with the most bytes."""
+        """Records the answer that is being sent. If all answers together are too long, ends connections of the client with the most bytes."""
         connection.answer = answer
         while sum(map(len, {id(other.answer): other.answer for other in self.visitors.connections}.values())) > MOST_SENT:
             answered = [other for other in self.visitors.connections if other.answer]
@@ -289,8 +289,8 @@ class Server:
             return response
 
     async def send_changes(self, response: web.StreamResponse, page: OpenPage, version: int, stays: Callable[[], bool]) -> None:
-        """Sends the changes to a page since a version, until the page is final or another stream takes the place of this one. Sending fails once
-        the visitor is gone."""
+        """Sends the changes to a page since a version, until the page is final or another stream replaces this one. Sending fails once the visitor is
+        gone."""
         is_last = False
         while not is_last and stays():
             with contextlib.suppress(TimeoutError):

@@ -1,7 +1,7 @@
 """Runs a referee or a player on the computer where a launcher has started this program. It needs only Python's standard library.
 
-It first writes the name of its node to standard error, and then a line every two seconds. It reads its task as a line of JSON from standard input,
-runs it, passes on the output, and reports the exit status at the end. If standard input is closed, or is silent for the number of seconds in the
+It first writes the name of its node to standard error, and then a line every two seconds. It reads its task, a line of JSON, from standard input,
+runs the task, passes on its output, and finally reports its exit status. If standard input is closed, or is silent for the number of seconds in the
 argument, the program ends the task. A player gets a free port and its limits, and is ended together with all processes that it has started."""
 
 import contextlib
@@ -30,7 +30,7 @@ LIBRARY = ctypes.CDLL(None)
 
 
 def free_port(before: int) -> int:
-    """Returns a free port: the earlier one, if it is free."""
+    """Returns a free port: the earlier one if possible."""
     for port in (before, 0):
         with contextlib.suppress(OSError), socket.socket() as probe:
             probe.setsockopt(socket.SOL_SOCKET, socket.SO_REUSEADDR, 1)
@@ -51,8 +51,8 @@ def bounded(memory: int) -> list[str]:
 
 
 def limit(memory: int, processors: int, number: int) -> None:
-    """Limits this process and those that it starts: the memory of each one, and the processors of all together. Different players get different
-    processors if there are enough."""
+    """Limits this process and those that it starts: the memory of each process, and the processors of all. Different players get different processors
+    if there are enough."""
     if memory:
         resource.setrlimit(resource.RLIMIT_DATA, (memory, memory))
     allowed = sorted(os.sched_getaffinity(0))
@@ -85,7 +85,7 @@ class Job:
         self.said = time.monotonic()
 
     def hear(self) -> bool:
-        """Reads standard input. Returns whether it is still open."""
+        """Reads standard input, and returns whether it is still open."""
         data, self.heard = os.read(0, MOST), time.monotonic()
         self.given += data
         *lines, self.given = self.given.split(b"\n")
@@ -130,8 +130,8 @@ class Job:
             self.is_at_line, self.said = not data or data.endswith(b"\n"), time.monotonic()
 
     def status(self) -> int:
-        """Returns the status of a process that has ended, and passes on the rest of its output. One read empties a pipe. The process is not reaped
-        yet, so that no other process gets its number."""
+        """Returns the status of a process that has ended, and passes on the rest of its output. One read gets everything that is left in a pipe. The
+        process is not reaped yet, so that no other process gets its number."""
         os.set_blocking(self.pipe.fileno(), False)
         with contextlib.suppress(BlockingIOError, KeyError):
             self.pass_on()

@@ -13,7 +13,7 @@ from ggp_tools.match_log import LONGEST_LINE
 from ggp_tools.printable import printable
 
 SILENT, LONG = "nothing was heard from it for {:.0f} s", "it sent a line of more than {:,} bytes"
-# The output of a job is read for at most this many seconds after its end, because a process that it left behind may keep the pipe open.
+# After a job has ended, its output is read for at most this many seconds, because a process that the job left behind may keep the pipe open.
 MOST_UNREAD = 2
 # A job has END_SECONDS to end its processes. It counts as lost if it sends nothing for LOST_SECONDS.
 END_SECONDS, LOST_SECONDS = 3, 10
@@ -31,7 +31,7 @@ class Lost(Exception):
 
 class Job:
     """A run of `job.py` by a launcher on another computer, or on this one without a launcher. `take_output` gets its standard output, and `take_line`
-    each line of standard error that it passes on. It is up when it has sent the line that begins with the word `up`."""
+    each line of standard error that it passes on. The job is up when it has sent the line that begins with the word `up`."""
 
     def __init__(
         self, take_output: Callable[[bytes], Awaitable[None]], take_line: Callable[[bytes], None], up: str = "node", end_seconds: float = END_SECONDS
@@ -71,7 +71,7 @@ class Job:
                 await asyncio.wait([ending, reading], return_when=asyncio.FIRST_COMPLETED)
             finally:
                 beating.cancel()
-                # The job gets time to end the processes on the node, because these may go on if the job is killed.
+                # The job gets time to end the processes on the node, which may continue if the job is killed.
                 self.process.stdin.close()
                 await asyncio.wait([ending], timeout=self.end_seconds)
                 self.goes_on = self.has_begun and not has_ended.is_set()
@@ -113,7 +113,7 @@ class Job:
             self.take(rest)
 
     def take(self, line: bytes) -> None:
-        """Handles a line of standard error. The first line of the job itself is the node, the last one the status."""
+        """Handles a line of standard error. The job's own first line is the node, and its last line is the status."""
         if not line.startswith(OURS):
             self.take_line(line)
             return

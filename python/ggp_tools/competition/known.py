@@ -16,7 +16,7 @@ from ggp_tools.descriptions.kept import cached, store
 
 PACKAGE = pathlib.Path(__file__).resolve().parents[1]
 CODE = {".py", ".html", ".css", ".js"}
-# If there are facts about more competitions than this, those that have not been used for the longest time are deleted.
+# The cache keeps the facts about this many competitions, and deletes the least recently used ones.
 MOST_KEPT = 20
 # The facts about a competition have at most this size, which suffices for about 30,000 matches.
 MOST_BYTES = 64 << 20
@@ -44,7 +44,7 @@ def sum_or_none(path: str | pathlib.Path) -> str | None:
 
 
 class Facts(pickle.Unpickler):
-    """Reads stored facts. They consist of dataclasses of this package and of these types, so reading a file that somebody else wrote runs no code."""
+    """Reads stored facts. It accepts only dataclasses of this package and these types, so a file that somebody else wrote cannot run code."""
 
     TYPES = {("collections", "Counter"), ("datetime", "datetime"), ("datetime", "timedelta"), ("datetime", "timezone"), ("markupsafe", "Markup")}
 
@@ -72,7 +72,7 @@ class Known:
     fact of this kind is needed."""
 
     def __init__(self, folder: pathlib.Path) -> None:
-        # Another version of the code may find other facts, and can't read these.
+        # The key includes the code, because another version may find other facts, and cannot read these.
         code = [file.read_bytes() for file in sorted(PACKAGE.rglob("*")) if file.suffix in CODE]
         self.name = sum_of_parts(os.fsencode(folder.absolute()), sys.version.encode(), *code)
         # The stored facts are ignored if their file has changed since it was written, or if another user may have written it.
@@ -97,8 +97,8 @@ class Known:
         self.used.setdefault(kind, {})[key] = value
 
     def write(self) -> None:
-        """Stores the facts. Drops the unused facts of each kind from which other facts were used. Facts that cannot be stored are found again the next
-        time."""
+        """Stores the facts. If facts of a kind were used, the other facts of this kind are dropped. Facts that cannot be stored are computed again
+        the next time."""
         new = {kind: pickle.dumps(values) for kind, values in self.used.items() if values != self.facts(kind)}
         if new and len(data := pickle.dumps(self.before | new)) <= MOST_BYTES:
             store(KIND, self.name, data, MOST_KEPT)

@@ -34,11 +34,11 @@ from ggp_tools.records.show import NoRecord, read_record
 from ggp_tools.referee import Referee
 from ggp_tools.reporting import NOT_BEGUN
 
-# Listing all records takes at most a tenth of the time, and one update reads them for READING seconds. The record of a match that was open is read
-# at once.
+# Listing all records takes at most a tenth of the time, and one update reads records for at most READING seconds. The record of a match that was open
+# is read at once.
 SHARE, READING = 10, 1.0
-# The system lists many locks in pieces, and may leave one out while others are released. So a lock counts as released only if it is missing from this
-# many lists.
+# The system lists the locks in pieces, and may omit one while others are released. So a lock counts as released only if it is missing from this many
+# lists.
 LISTS = 5
 # The board of a match stays for this many seconds after its end.
 STAYS = 60
@@ -56,7 +56,7 @@ OUT_OF_FILES = errno.EMFILE, errno.ENFILE
 WHOLE_PATH = re.compile(r"(?<![\w./-])/(?:[^\s/]+/)*(?=[^\s/])")
 
 
-# The number, the size and the time of a file. They change if the file is replaced or written again.
+# The number, the size and the time of a file. The identity changes if the file is replaced or written again.
 Identity = tuple[int, int, int]
 # The identity of a missing file.
 NOWHERE: Identity = (0, 0, 0)
@@ -90,7 +90,7 @@ class Delay:
     def __init__(self, seconds: float = 0.0) -> None:
         self.seconds = seconds
         self.snapshots: deque[Snapshot] = deque()
-        # Other values as they are now, and since when.
+        # Other values, each with the time since which it is unchanged.
         self.values: dict[str, tuple[object, float]] = {}
         self.is_new = True
         # The matches of plans that are not shown yet. Their files are remembered from now on.
@@ -119,16 +119,16 @@ class Delay:
 
 @dataclass
 class LiveMatch:
-    """An open match. The pages use only the finished rounds, and a timer that starts when `serve` notices that the last of these has finished.
-    If the state says whose turn it is, that role is shown as awaited. After half of the open round's time, all awaited roles are shown, and nothing
-    else of that round. `version` counts the changes of what is shown."""
+    """An open match. The pages use only the finished rounds, and a timer that starts when `serve` notices that the last of these has finished. If the
+    state says whose turn it is, that role is shown as awaited. After half of the open round's time, all awaited roles are shown, and nothing else of
+    that round. `version` counts the changes of the part that is shown."""
 
     match: Match
     roles: tuple[str, ...]
     tail: Tail[Event]
     board: LiveBoard
     stage: str = ""
-    # A match that is open for the second time has other versions.
+    # The versions differ if a match is open for the second time.
     version: int = field(default_factory=time.time_ns)
     # The time of day of the last update.
     now: float = 0.0
@@ -168,7 +168,7 @@ class LiveMatch:
         return self.board.position.round()
 
     def open_round(self) -> int | None:
-        """Returns the round that was open when the log was last read, or None if lines or answers are still to be read."""
+        """Returns the round that was open when the log was last read, or None if not everything has been read."""
         return None if self.tail.is_behind or self.board.is_known_further() else self.turn()
 
     def is_over(self) -> bool:
@@ -176,7 +176,7 @@ class LiveMatch:
         return len(self.ends) == len(self.match.players)
 
     def is_ending(self) -> bool:
-        """Returns whether the roles answer STOP or ABORT, or have answered it."""
+        """Returns whether STOP or ABORT has been sent."""
         return self.is_over() or self.board.position.is_ending()
 
     def awaited(self) -> list[int]:
@@ -327,7 +327,7 @@ class Reader:
         self.results: dict[str, Result] = {}
         # What the pages show of the matches with results. An entry stays when its result is removed, because a page may still list the match.
         self.over: dict[str, Ended] = {}
-        # The matches that were open and have no result yet. Then the matches that have just got their result, with the time of the clock and the last
+        # The matches that were open and have no result yet. Then the matches whose result has just arrived, with the clock's time and the last
         # states.
         self.ending: set[str] = set()
         self.ended: dict[str, tuple[float, list[list[str]]]] = {}
@@ -335,14 +335,14 @@ class Reader:
         # The files of each match when its record was read, and the records that are still to be read.
         self.identities: dict[str, tuple[Identity, Identity] | None] = {}
         self.unread: deque[str] = deque()
-        # Why directories can't be read, and the open matches when their directory was last read.
+        # The reasons why directories can't be read, and the open matches when their directory was last read.
         self.unlisted: dict[str, str] = {}
         self.open_files: dict[str, OpenFiles] = {}
         # The last replaced moves of matches that are over.
         self.replaced: list[Replaced] = []
         self.version, self.results_version, self.is_running = 0, 0, False
         self.next_listing, self.next_advance = 0.0, 0.0
-        # Why `play` has given matches up, and these matches including those that are not shown yet.
+        # The matches that `play` has given up, with the reasons. The second set includes matches that are not shown yet.
         self.journal, self.given_up = Tail(str(plan.folder.journal), functools.partial(str, encoding="ascii", errors="replace")), {}
         self.left: set[str] = set()
         commands = {player.name: player.command for player in plan.competition.players}
@@ -395,10 +395,10 @@ class Reader:
         names, known = self.listed(self.plan.folder.open), self.remembered()
         if names is not None:
             matches = {name: files for name in known if name in names and (files := self.open_files_of(name))}
-            # While INFO is being sent, a match would show that a player is silent, perhaps even in an open turn of another match.
+            # A match that still sends INFO is not shown: it would reveal that a player is silent, perhaps even in an open turn of another match.
             playing = {player for name, files in matches.items() if files.stage != ASKING for player in known[name].players}
             matches = {name: files for name, files in matches.items() if files.stage != ASKING or playing.isdisjoint(known[name].players)}
-            # Snapshots share what has not changed.
+            # Snapshots share unchanged parts.
             matches = {name: self.open_files[name] if self.open_files.get(name) == files else files for name, files in matches.items()}
             self.open_files = matches if matches != self.open_files else self.open_files
         return self.open_files
@@ -474,7 +474,7 @@ class Reader:
         self.restarted[player] = self.restarted.get(player, (0,))[0] + 1, match
 
     def show_later(self, players: Iterable[str], show: Callable[[], None]) -> None:
-        """Stores what the journal says about players. `show_news` shows it once their matches that are open now allow it."""
+        """Stores what the journal says about players. `show_news` shows it when the matches that are open now permit that."""
         self.news.append(News(show, {name: None for name, other in self.open.items() if not set(players).isdisjoint(other.match.players)}))
 
     def show_news(self) -> None:
@@ -488,8 +488,8 @@ class Reader:
         self.news = [news for news in self.news if news.rounds]
 
     def is_open(self, name: str, at: int | None) -> bool:
-        """Returns whether a round of a match may be open. The round of a match that was broken off counts as open until the match has got further, or
-        is over, or was given up."""
+        """Returns whether a round of a match may be open. The round of a match that was broken off counts as open until the match has progressed, is
+        over, or was given up."""
         match = self.open.get(name)
         if match:
             return at is None or match.turn() <= at
@@ -499,7 +499,7 @@ class Reader:
         return self.open[name].open_round() if at is None and name in self.open else at
 
     def advance(self, until: float, first: Container[str] = ()) -> None:
-        """Asks the referee about the answers of open matches, beginning with these matches, until this time. Then shows news."""
+        """Asks the referee about the answers of open matches until this time, beginning with these matches. Then shows news."""
         began = time.monotonic()
         due = [live_match for live_match in self.open.values() if live_match.board.is_due()] if began >= self.next_advance else []
         for live_match in sorted(due, key=lambda live_match: (live_match.match.id not in first, live_match.asked)):
@@ -573,7 +573,7 @@ class Reader:
             return
         except OSError as why:
             if why.errno in OUT_OF_FILES:
-                # The next update reads it.
+                # The next update tries again.
                 self.unlisted[self.plan.folder.records.name] = why.strerror
             else:
                 self.refuse(name, f"it can't be read: {why.strerror}", files)

@@ -62,7 +62,7 @@ def numbered(states: list[list[str]], turns: int) -> list[Keys]:
 
 
 def own_keys(reader: Reader, match: Match) -> Keys:
-    """Returns all keys of a match, except those of `record_keys`."""
+    """Returns all keys of a match except those that `record_keys` returns."""
     keys = {**match_keys(reader, match), "roles": reader.plan.roles(match.game), "start": match.start, "play": match.play}
     if (live_match := reader.open.get(match.id)) and match.id not in reader.results:
         position = live_match.board.position
@@ -112,7 +112,7 @@ def metrics(reader: Reader, table: Table) -> bytes:
 
 
 def metrics_text(numbers: dict[str, dict[str, int]]) -> bytes:
-    """Returns numbers in Prometheus's text format. They are given by name and by label."""
+    """Returns numbers in Prometheus's text format. The numbers are given by name and label."""
     rows = (f"ggp_{name}{label} {value}\n" for name, values in numbers.items() for label, value in values.items())
     return "".join(rows).encode("ascii")
 

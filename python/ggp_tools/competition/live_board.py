@@ -1,4 +1,4 @@
-"""Follows an open match: sends the answers in its log to a desk of the program, which replies which moves were played or replaced, and which roles
+"""Follows an open match: sends the answers in its log to the referee's desk, which reports the moves that were played or replaced, and the roles that
 must answer."""
 
 import itertools
@@ -75,8 +75,8 @@ def text_in_line(answer: str) -> bytes:
 
 
 class LiveBoard:
-    """The turns of a match, as far as its log has whole rounds. Answers in an open round are only stored: the referee is asked only about finished
-    rounds, so the position follows only from these. `version` counts the changes of the position and the trouble."""
+    """The turns of a match up to the last whole round in its log. Answers in an open round are only stored: the referee gets only finished rounds, so
+    the position follows only from these. `version` counts the changes of the position and the trouble."""
 
     def __init__(self, match: Match, strikes: int, rules: Path) -> None:
         self.match, self.strikes, self.rules = match, strikes, rules
@@ -104,7 +104,7 @@ class LiveBoard:
         return not self.is_finished(now) and any(at > now and self.is_finished(at) for at in self.answers)
 
     def is_known_further(self) -> bool:
-        """Returns whether the referee would report something new."""
+        """Returns whether the referee would report anything new."""
         return not self.is_stuck and (not self.position.states or self.is_finished(self.position.round()))
 
     def is_due(self) -> bool:
@@ -114,7 +114,7 @@ class LiveBoard:
     def advance(self, referee: Referee) -> dict[int, Answers]:
         """Asks the referee for the moves of the finished rounds. Returns the answers in these rounds."""
         done, before = {}, (self.position, self.trouble)
-        # A recorded round shows which roles are retired, and therefore which later rounds are finished.
+        # Recording a round may show that roles are retired, and therefore that later rounds are finished.
         while self.is_known_further() and (recorded := self.ask(referee)) is not None:
             done |= recorded
         if self.lacks_line():
@@ -162,7 +162,8 @@ class LiveBoard:
         self.position = Position(record["phase"], owing, last_states(record["states"]), record["moves"], known, movers)
 
     def begun(self) -> bytes:
-        """Returns the calls up to the end of the recorded turns. They have the moves that were played, and a missing answer for each replaced move."""
+        """Returns the calls up to the end of the recorded turns. They contain the moves that were played, and a missing answer for each replaced
+        move."""
         match, position = self.match, self.position
         rows = [f"strict {match.id} 0 {match.start} {match.play} {self.strikes} {' '.join(match.players)}\n".encode()]
         if position.round():

@@ -21,7 +21,7 @@ if typing.TYPE_CHECKING:
 
 # The first page has boards of at most BOARDS open matches and BOARDS_OVER matches that have just ended, and lists at most QUEUE waiting ones.
 BOARDS, BOARDS_OVER, QUEUE = 12, 6, 20
-# At most this many of the terms that no board shows are listed.
+# The maximum number of listed terms that no board shows.
 MOST_TERMS = 60
 STAGES = {"asking": "its players are asked whether they are free", "checking": "its record is being checked"}
 OPEN_HEADS = ["match", "game", "players", "turn", "awaited", "for", "no answer"]
@@ -45,7 +45,7 @@ class Status:
 
 
 def live_part(name: str, macro: str = "", /, **values: object) -> Part:
-    """Returns a part that a macro of live.html makes: the macro with the part's name, unless another macro is given."""
+    """Returns a part of a page, made by a macro of live.html. The macro has the part's name, unless another one is given."""
     return Part(name, html_of("live", macro or name, **values))
 
 
@@ -110,7 +110,7 @@ def now_part(reader: Reader, waiting: int, given_up: int) -> Part:
 
 
 def replaced_part(replaced: list[tuple[Replaced, int]]) -> Part:
-    """Returns the last replaced moves, the newest first, with the numbers of earlier ones of their matches that are not listed."""
+    """Returns the last replaced moves, the newest first. For each match, it says how many earlier ones are not listed."""
     rows = [(move, before, reason_of(move.error), move.error.partition(" ")[2]) for move, before in replaced]
     return live_part("replaced", rows=rows, intro=REPLACED)
 

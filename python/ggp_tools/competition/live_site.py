@@ -31,14 +31,14 @@ from ggp_tools.templating import page
 if typing.TYPE_CHECKING:
     from markupsafe import Markup
 
-# The tables are computed for at most a tenth of the time, and each update follows boards for at most FOLLOW seconds.
+# Computing tables takes at most a tenth of the time, and following boards takes at most FOLLOW seconds of each update.
 SHARE, FOLLOW = 10, 0.25
-# How many seconds a page without viewers is kept, how many pages are kept, and for each page how many changes are kept, and how many bytes these may
-# have in total.
+# The seconds for which a page without viewers is kept, the number of pages that are kept, and the number and the total bytes of the changes that are
+# kept for each page.
 IDLE, MOST_PAGES, MOST_EVENTS, BYTES_OF_EVENTS = 30.0, 200, 60, 1 << 20
-# How many bytes of pages of finished matches are kept. A browser without JavaScript reloads a page after this many seconds.
+# The bytes of the pages of finished matches that are kept. A browser without JavaScript reloads a page after this many seconds.
 MOST_KEPT, RELOAD = 64 << 20, 10
-# How many bytes of records are kept parsed, because the page of a long match has several parts.
+# The bytes of the records that are kept parsed, because the page of a long match has several parts.
 MOST_PARSED = 16 << 20
 # A function that the other thread calls.
 Work = Callable[[], bytes | None]
@@ -147,7 +147,7 @@ class SiteOfShown(Site):
         return read_record(data), len(data)
 
     def data_of_match(self, path: str, match: Match, make: Callable[[], bytes]) -> bytes | None:
-        """Returns the data that `make` makes of a match that is over, or None if other files have replaced those that are shown."""
+        """Returns the data that `make` makes from a finished match, or None if other files have replaced those that are shown."""
 
         def made() -> bytes:
             data = make()
@@ -170,7 +170,7 @@ class LiveSite:
         self.versions = itertools.count(time.time_ns())
         self.pages: OrderedDict[str, OpenPage] = OrderedDict()
         # `plan_stamp` is the stamp of the plan's files before they were last read. `plans` has the plans that are not shown yet, each with its time.
-        # If the files can't be read, it has the reason instead of a plan.
+        # If the files can't be read, `plans` has the reason instead of a plan.
         self.plan_stamp, shown = plan_stamp(plan.folder) if stamp is None else stamp, without_new_rounds(plan, delay)
         self.plans: list[tuple[float, Plan | str]] = [] if shown is plan else [(live.clock(), plan)]
         self.begin(shown)
@@ -196,7 +196,7 @@ class LiveSite:
         """Does the work of `update` in steps, so that other pages can be made between them."""
         self.update_plan()
         for _ in self.reader.update():
-            # A plan that has just been read has no pages yet.
+            # Right after a plan is read, it has no pages.
             if self.made:
                 yield True
         self.count_results()
@@ -216,7 +216,7 @@ class LiveSite:
             deque(self.renew_pages(), 0)
 
     def renew_pages(self) -> Iterator[bool]:
-        """Renews the pages that somebody has open. If one can't be made, the others still are."""
+        """Renews the pages that somebody has open. An error in one page does not affect the others."""
         faults = []
         for path, page in list(self.pages.items()):
             yield True
@@ -230,7 +230,7 @@ class LiveSite:
             raise faults[0]
 
     def update_plan(self) -> None:
-        """Reads the plan if it has changed. Starts again if the plan had changed by the moment that is shown."""
+        """Reads the plan if it has changed. Starts again if the plan that is shown has changed."""
         stamp = plan_stamp(self.plan.folder)
         if stamp != self.plan_stamp:
             self.plan_stamp = stamp
@@ -253,9 +253,9 @@ class LiveSite:
         self.delay.coming = {match.id: match for _, plan in self.plans if isinstance(plan, Plan) for match in plan.matches}
 
     def count_results(self) -> None:
-        """Computes the tables if results have changed, unless it has just done so."""
+        """Computes the tables if results have changed, but not too often."""
         began = time.monotonic()
-        # While records are still to be read, ratings would follow from only some of them.
+        # Until all records are read, the ratings would be wrong.
         version = self.reader.results_version, not self.reader.unread
         if self.tables_version == version or began < self.next_tables:
             return
@@ -275,7 +275,7 @@ class LiveSite:
         self.states = {name: state for name, state in self.states.items() if name in self.reader.open or name in self.reader.ended}
 
     def state(self, match: Match, version: int, states: Callable[[], list], notes: list[str]) -> "Markup":
-        """Returns the last state of a match. It is drawn again only if its version has changed."""
+        """Returns the last state of a match. Draws it again only if its version has changed."""
         if self.states.get(match.id, (None,))[0] != version:
             self.states[match.id] = version, live_pages.state_html(states(), self.plan.roles(match.game), self.site.named(match.game), notes)
         return self.states[match.id][1]
@@ -290,7 +290,7 @@ class LiveSite:
         return self.trouble or self.fault or self.reader.trouble()
 
     def stamp(self, path: str) -> tuple | None:
-        """Returns the data that a page is made from, or None if there is no such page. If the data is the same, the page is the same."""
+        """Returns the data that a page is made from, or None if there is no such page. Equal data gives equal pages."""
         if path == live_api.FEED:
             own = self.reader.version, self.reader.results_version, self.tables_version
         elif path == FIRST:
@@ -358,7 +358,7 @@ class LiveSite:
         if changed:
             version = next(self.versions)
             events = [*page.events[1 - MOST_EVENTS :], (version, event_text(version, {**changed, "now": self.delay.now()}))]
-            # At least two changes stay: viewers have the version of the one before the last.
+            # At least two changes are kept, because viewers have the version of the last but one.
             while len(events) > 2 and sum(len(text) for _, text in events) > BYTES_OF_EVENTS:
                 del events[0]
             page.events = tuple(events)

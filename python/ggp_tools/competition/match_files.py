@@ -26,8 +26,8 @@ if TYPE_CHECKING:
     from ggp_tools.competition.plan import Plan
     from ggp_tools.descriptions.loading import Rules
 
-# At most this many matches are checked together. Their files have at most this many bytes in total, unless one match has more, since all of them are
-# in memory.
+# At most this many matches are checked together. Their files are in memory at the same time, so they have at most this many bytes in total, unless a
+# single match has more.
 TOGETHER, BYTES_TOGETHER = 250, 1 << 25
 # Only one batch with more bytes is checked at a time.
 LARGE = threading.Lock()
@@ -81,8 +81,8 @@ def account_bytes(folder: Folder, match: str) -> bytes | None:
 
 
 def fault_of_files(record: bytes, account: bytes | None, rules: bytes) -> str | None:
-    """Returns the reason why files cannot be passed to the referee, or None. It finds everything that would make the referee stop, and everything
-    that the referee would skip."""
+    """Returns the reason why files cannot be passed to the referee, or None. It finds everything that would make the referee stop or that the referee
+    would skip."""
     if account is None:
         return "its call log is missing"
     if len(account) > LONGEST_ACCOUNT:
@@ -99,7 +99,7 @@ def fault_of_files(record: bytes, account: bytes | None, rules: bytes) -> str | 
 
 
 def has_shape(record: object, roles: int) -> bool:
-    """Returns whether a JSON value has those parts of a record that a result is made from."""
+    """Returns whether a JSON value has the parts of a record that determine a result."""
     if not isinstance(record, dict):
         return False
     goals, errors = record.get("goalValues"), record.get("errors")
@@ -228,9 +228,9 @@ def set_aside(plan: "Plan", match: str) -> bool:
 
 
 def keep(folder: Folder, match: str, record: bytes, account: bytes, log: bytes, word: str | None = None) -> pathlib.Path:
-    """Writes the files of a match, the record last: a match that has a record has the other files too. If a word is given, the names of the files get
-    an unused ending with this word, and the match does not count. Returns the file of the record. If a file cannot be written, those before it are
-    deleted."""
+    """Writes the files of a match, the record last: a match that has a record has the other files too. If `word` is given, the names of the files get
+    an unused ending with it, and the match does not count. Returns the file of the record. If a file cannot be written, deletes the files written
+    before it."""
     files = files_of(folder, match)
     ending = free_ending(files, word) if word else ""
     named = [file.with_name(file.name + ending) for file in files]
@@ -238,7 +238,7 @@ def keep(folder: Folder, match: str, record: bytes, account: bytes, log: bytes, 
         for file, data in zip(named, (log, account, record)):
             write_whole(file, data)
     except OSError:
-        # Once the record has its name, the match counts.
+        # The match counts as soon as the record has its name.
         with contextlib.suppress(OSError):
             for file in named if not named[-1].exists() else ():
                 file.unlink(missing_ok=True)

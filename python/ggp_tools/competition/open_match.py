@@ -27,7 +27,7 @@ if TYPE_CHECKING:
 # The referee ends INFO by itself after WHOLE seconds. Within SOON more seconds, it has reported whether it ran out of a resource.
 WHOLE, SOON = 10, 1
 FREE = ("available", "ready", "unknown")
-# A launcher may send at most this many bytes before a match, and the log has at most this many for each message, besides the texts of the message.
+# The maximum number of bytes that a launcher may send before a match, and that the log has for each message besides its texts.
 MOST_BEFORE, MOST_OF_MESSAGE = 1 << 20, 1 << 10
 TOO_MUCH = "it sent more than {:,} bytes, which is more than any match needs"
 # The players of a match that was lost with its node must answer ABORT within this many seconds.
@@ -59,14 +59,14 @@ class OpenMatch:
         self.directory, self.log = self.plan.folder.open / match.id, self.plan.folder.room_log(match.id)
         self.places: list[str] = []
         self.stage, self.seconds = ASKING, 0.0
-        # When the match took the slots of its players. All matches that were open when a player failed to answer count as one try.
+        # When the match took the slots of its players. If a player fails to answer while several matches are open, that counts as one try.
         self.taken_at, self.has_slots = time.monotonic(), True
         self.result, self.why = None, None
         # Whether its players must be sent ABORT, whether a referee may still play it on a node, and whether the rules of its game are wrong.
         self.is_broken, self.goes_on, self.stops_game = False, False, False
 
     async def go(self) -> None:
-        """Plays the match. If it is ended while it is being played, it is broken."""
+        """Plays the match. A match that is ended while it is being played is broken."""
         try:
             self.directory.mkdir(0o700, parents=True, exist_ok=True)
             self.enter(ASKING)
@@ -116,7 +116,7 @@ class OpenMatch:
         self.places = list(map(self.players.place, players))
         async with asyncio.TaskGroup() as group:
             asked = [group.create_task(self.info(player, place)) for player, place in zip(players, self.places)]
-        # An error of this computer does not count against a player.
+        # Errors of this computer do not count against a player.
         return not self.why and self.can_begin({player: task.result() for player, task in zip(players, asked)})
 
     async def info(self, player: str, place: str) -> str:
@@ -182,7 +182,7 @@ class OpenMatch:
         return None if done.status else done.output
 
     async def play_elsewhere(self) -> bytes | None:
-        """Plays the match as a job of the launcher. If the job is lost, this starts another one."""
+        """Plays the match as a job of the launcher. If the job is lost, starts another one."""
         for tries_left in reversed(range(self.plan.competition.tries)):
             job = MatchJob(self)
             if not (done := await job.play()):
@@ -209,7 +209,7 @@ class OpenMatch:
 
 
 class MatchJob(Job):
-    """A job that plays a match on a node. It may not send more than a referee can write about the match."""
+    """A job that plays a match on a node. The job may not send more than a referee can write about the match."""
 
     def __init__(self, open_match: OpenMatch) -> None:
         super().__init__(self.take_output, self.take_line)
@@ -300,13 +300,12 @@ def check_match(plan: Plan, referee: Referee, match: Match, output: bytes, log: 
 
 
 def compare(plan: Plan, match: Match, record: bytes) -> tuple[bytes | None, str | None]:
-    """Compares a record with the description of its game. Returns the description, and the outcome or why there is none. Both are None if the game was
-    given as ground rules."""
+    """Compares a record with the description of its game. Returns the description, and the outcome or the reason why there is none. Both are None if the game was given as ground rules."""
     game = next(game for game in plan.competition.games if game.name == match.game)
     description, why_not = description_of(plan, game)
     if description is None:
         return None, why_not
-    # A copy is compared, because the file may change meanwhile.
+    # The comparison uses a copy, because the file may change meanwhile.
     with tempfile.NamedTemporaryFile(dir=plan.folder.open / match.id) as copy:
         copy.write(description)
         copy.flush()

@@ -1,7 +1,7 @@
 """Packs the files of an archive, and unpacks an archive that may be hostile.
 
-Programs unpack unusual tar files differently. So `unpack` accepts only the output of `pack`: it makes each header again from its values, and compares
-the two."""
+Programs unpack unusual tar files differently. So `unpack` accepts only the output of `pack`: it makes each header anew from its values, and compares
+it with the given one."""
 
 import gzip
 import io
@@ -30,7 +30,7 @@ MOST_OF_FILES = {
     **dict.fromkeys(("accounts", "logs", "pages"), LONGEST_ACCOUNT),
     "records": 1 << 30,
 }
-# These files are first, because the matches determine which files there may be.
+# These files come first, because the matches determine which other files are allowed.
 FIRST = "competition.toml", "schedule.tsv"
 # The files of a match, and the maximum number of all other files, including those of games and players.
 OF_MATCH, OTHER_FILES = re.compile(r"[^/]*/(?:records/(.+)\.json|accounts/(.+)\.txt|logs/(.+)\.jsonl|pages/matches/(.+)\.html)"), 10_000

@@ -69,7 +69,7 @@ def rows_part(name: str, title: str, heads: list[str], rows: list[Item], nothing
 
 
 def frame(parts: PageParts) -> list[tuple]:
-    """Returns the things that cannot change while a browser shows the page: the parts, and the HTML around their items."""
+    """Returns everything that cannot change while a browser shows the page: the parts, and the HTML around their items."""
     return [(part.name,) if isinstance(part, Part) else (part.name, part.opening, part.closing) for part in parts]
 
 

@@ -40,7 +40,7 @@ LAST, MOST_CROSSED = 20, 100
 MOST_LISTED = 500
 # Pages are made in batches whose records have about this many bytes.
 TOGETHER = 64 << 20
-# At most this much of a match's log is read.
+# The most that is read of a match's log.
 MOST_OF_LOG, LOG_WORDS = 16 << 20, "16 MiB"
 
 MATCH_HEADS = ["match", "game", "result", "players and goals", "turns", "replaced moves", "begin (UTC)", "seconds"]
@@ -178,7 +178,7 @@ class Site:
         return html_of("competition", "way_of_match", match=result.match, **texts)
 
     def named(self, game: str) -> Named:
-        """Returns how the boards of a game are drawn. Rules that are too long are not read for this."""
+        """Returns how the boards of a game are drawn. Does not read rules that are too long."""
         rules = self.plan.rules[game].text
         return named_in(rules if len(rules) <= MOST_RULES else b"", self.games[game].board == BOARDS[1])
 
@@ -224,7 +224,7 @@ class Site:
 
     def head(self, table: Table, results: list[Result]) -> Part:
         plan = self.plan
-        # As in the table, a match that another one replaces does not count.
+        # A match that another one replaces does not count, as in the table.
         count, of_all, (begin, end) = sum(result.match.counts() for result in results), count_of_all(plan), self.span(results)
         counts = {"count": count, "of_all": of_all, "rounds": rounds_words(plan), "begin": begin, "end": end, "first": first_ranks(table, count == of_all)}
         return part("head", name=plan.competition.name, games=list(self.games), forfeit=forfeit_rule(plan.competition), **counts)
@@ -315,7 +315,7 @@ class Pages:
         sums = self.known.get("sites", key) if self.known else None
         if not sums or any(sum_or_none(self.folder / name) != digest for name, digest in sums.items()):
             sums = self.write_all(results)
-            # If a file has changed meanwhile, it is not known which version was read.
+            # If a file has changed meanwhile, the pages may follow from either version.
             if self.known and key == self.sum_of_sources(results):
                 self.known.put("sites", key, sums)
         names = set(sums)

@@ -116,7 +116,8 @@ def is_played(folder: Folder) -> bool:
 
 
 def is_begun(folder: Folder) -> bool:
-    """Returns whether matches have been played. The history of a plan begins only then, so it shows this even if the records are elsewhere."""
+    """Returns whether matches have been played. A plan has a history only once matches have been played, so the history shows this even if the
+    records are gone."""
     return is_played(folder) or bool(history_files(folder))
 
 
@@ -126,7 +127,7 @@ def count_of_matches(folder: Folder) -> int | None:
 
 
 def files_of_origin(plan: Plan) -> list[Path]:
-    """Returns the files besides competition.toml from which the schedule follows."""
+    """Returns the files from which, besides competition.toml, the schedule follows."""
     folder = plan.folder
     return [folder.planned, *history_files(folder), *([folder.key] if plan.history.key else []), *([folder.seeds] if plan.competition.seeds else [])]
 
@@ -152,7 +153,7 @@ def schedule_of(folder: Folder, competition: Competition, rules: Mapping[str, Ru
 
 
 def loaded_games(folder: Folder, competition: Competition, referee: Referee) -> dict[str, Rules]:
-    """Returns the rules of each game, by name. Refuses all invalid descriptions together."""
+    """Returns the rules of each game, by name. If descriptions are invalid, raises one error for all of them."""
     rules_by_name, mistakes = {}, []
     for game in competition.games:
         path, program = folder.path / game.file, referee.taking(game.large)
@@ -203,8 +204,8 @@ def seeds_of(folder: Folder, competition: Competition) -> Path | None:
 
 
 def make_plan(path: str, referee: Referee, is_preview: bool = False) -> Plan:
-    """Writes the rules and the schedule of the competition in a directory, and returns the plan. Writes nothing if this is a preview, if anything is
-    wrong, if matches have been played and the schedule would change rather than grow, or while matches are being played."""
+    """Writes the rules and the schedule of the competition in a directory, and returns the plan. Writes nothing in a preview, after an error, while
+    matches are being played, or if matches have been played and the schedule would not only grow."""
     folder = Folder(path)
     text = read_toml_file(folder.competition)
     competition = competition_of_file(folder.competition, text)
@@ -231,7 +232,7 @@ def make_plan(path: str, referee: Referee, is_preview: bool = False) -> Plan:
                 **({folder.seeds: read_file(seeds)} if seeds else {}),
                 **files,
                 folder.description_sums: sums_text({f"{name}.kif": ground.description_sum for name, ground in rules.items()}),
-                # Without these checksums the other files do not count, so an interrupted plan must be made again.
+                # The other files do not count without these checksums, so an interrupted `plan` must run again.
                 folder.rule_sums: sums_text({file.name: sum_of(data) for file, data in files.items()}),
                 folder.planned: text,
                 folder.schedule: schedule_text(schedule.matches),
@@ -254,7 +255,7 @@ def history_of(folder: Folder, competition: Competition, rules: Mapping[str, Rul
 
 
 def planned_before(folder: Folder, competition: Competition) -> Competition | None:
-    """Returns the competition that `plan` read last, or None. Matches have been played, so this refuses changes to values that must stay the same."""
+    """Returns the competition that `plan` read last, or None. Because matches have been played, refuses changes to values that must stay the same."""
     if not folder.planned.exists():
         return None
     before = competition_of_file(folder.planned, read_toml_file(folder.planned), folder.seeds)
@@ -343,7 +344,7 @@ def read_plan(path: str, referee: Referee) -> Plan:
             refuse_lost_record(folder, growing, schedule)
             raise refused_plan(folder, folder.schedule)
     except Refused:
-        # If rounds were paired by records that do not count, the schedule differs.
+        # The schedule differs if rounds were paired by records that do not count.
         if is_by_rounds(competition):
             _, faults, misfits = check_records(Plan(folder, competition, rules, matches_in(schedule, competition)), referee)
             if wrong := [f"{folder.record(match)}: {why}" for match, why in {**faults, **misfits}.items()]:
@@ -369,7 +370,7 @@ def refuse_lost_record(folder: Folder, growing: Growing, schedule: bytes) -> Non
 
 
 def refuse_lost_results(plan: Plan, results: Mapping[str, Result]) -> None:
-    """Refuses to go on if a later round was paired by the result of a match whose record does not count."""
+    """Refuses a schedule in which a later round was paired by the result of a match whose record does not count."""
     last = len(plan.rounds)
     lost = [match.id for match in plan.matches if match.round < last and match.counts() and match.id not in results]
     if last and lost:
@@ -440,7 +441,7 @@ def order_again(path: str, referee: Referee, match_id: str, reason: str) -> Matc
         match = replaceable_match(plan, referee, match_id)
         history = replace(plan.history, again=(*plan.history.again, Again(plan.next_id(), match.id, reason)))
         schedule = schedule_of(plan.folder, plan.competition, plan.rules, history, len(plan.matches) + 1)
-        # The schedule is written last: if this is interrupted before that, `plan` writes it.
+        # The schedule is written last: after an interruption, `plan` writes it.
         write_whole(plan.folder.again, again_text(history.again))
         write_whole(plan.folder.schedule, schedule_text(schedule.matches))
     return schedule.matches[-1]

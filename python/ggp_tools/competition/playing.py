@@ -30,7 +30,7 @@ from ggp_tools.reporting import NOT_BEGUN, REDRAWN, Reporter
 # The players of matches that are ended must answer ABORT within this many seconds.
 ABORT_SECONDS = 3
 ENDED = "broken off"
-# How many interrupts a signal counts as: after the first one no more matches begin, and the second one ends the open matches.
+# The number of interrupts that a signal counts as. After the first interrupt no more matches begin, and the second one ends the open matches.
 INTERRUPTS = {signal.SIGINT: 1, signal.SIGTERM: 2, signal.SIGHUP: 2}
 # An upper bound for the bytes of the names and addresses of a match's players.
 MOST_OF_PLACES = 1 << 20
@@ -44,7 +44,7 @@ class Playing:
         self.plan, self.referee, self.reporter = plan, referee, reporter
         self.slots, self.launcher = Slots(plan.competition), plan.competition.launcher
         self.at_once = self.launcher.slots if self.launcher else at_once
-        # `news` is set after an interrupt, and when matches may begin that could not begin before. `ends` is set when there is another result.
+        # `news` is set after an interrupt, and when further matches may be able to begin. `ends` is set when there is another result.
         self.news, self.ends = asyncio.Event(), asyncio.Event()
         self.players = StartedPlayers(plan.folder, plan.competition, referee, reporter)
         # By match id: the results, and the reasons why matches have none. By game: why no more of its matches begin.
@@ -63,7 +63,7 @@ class Playing:
         return not self.interrupts and not self.is_full and not (match and match.game in self.stopped)
 
     def begin(self) -> None:
-        """Opens matches, as long as fewer matches than allowed have slots, and another one can begin."""
+        """Opens matches until as many as allowed have slots, or no further match can begin."""
         self.searched_at, playing = time.monotonic(), sum(open_match.has_slots for open_match in self.open)
         while self.may_begin() and playing < self.at_once and (match := self.slots.next_match(self.waiting, self.searched_at)):
             open_match = OpenMatch(self, match)
@@ -106,7 +106,7 @@ class Playing:
             self.waiting.append(match)
 
     def stop_game(self, match: Match) -> None:
-        """Stops further matches of a game from beginning, because its rules are wrong. Open matches are played to their ends."""
+        """Begins no more matches of a game, because its rules are wrong. Open matches are played to their ends."""
         self.stopped[match.game] = f"{match.game} is not played any more, because {match.id} does not follow its description"
         others = [waiting for waiting in self.waiting if waiting.game == match.game]
         self.left.update((other.id, self.stopped[match.game]) for other in others)
@@ -154,7 +154,7 @@ class Playing:
             await asyncio.sleep(REDRAWN)
 
     async def show_results(self) -> None:
-        """Calls `watch` when there are new results, in a thread, because matches go on meanwhile."""
+        """Calls `watch` in a thread when there are new results, so that matches can continue meanwhile."""
         while self.watch:
             await self.ends.wait()
             self.ends.clear()
@@ -223,9 +223,9 @@ class Playing:
 def seconds_left(
     waiting: Iterable[Match], open_matches: Iterable[tuple[Match, float]], took: Mapping[str, list[float]], concurrent: Mapping[str, int], at_once: int
 ) -> float | None:
-    """Estimates how many seconds the remaining matches take, or returns None before the first one has ended. This is the longest of three times: of
-    the longest open match, of the player with the most left to play, and of all matches if as many as allowed are played at the same time.
-    `open_matches` has for each match how long it has been open. A game without finished matches is estimated by the mean of the others."""
+    """Estimates how many seconds the remaining matches take, or returns None before the first one has ended. This is the maximum of three times: for
+    the longest open match, for the player with the most left to play, and for all matches if as many as allowed are played at the same time.
+    `open_matches` has for each match how long it has been open. If a game has no finished matches, uses the mean of the others."""
     times = [seconds for game in took.values() for seconds in game]
     if not times:
         return None
@@ -302,7 +302,7 @@ def prepare(playing: Playing) -> None:
         raise Refused(f"{folder.records / others[0]} belongs to no match of the schedule{more}", advice)
     directories = open_directories(plan)
     if count := sum(bool(places) and not folder.record(directory.name).exists() for directory, places in directories.items()):
-        # The check of the records takes a while, and players that do not answer take longer.
+        # Checking the records takes a while, and waiting for players that do not answer takes longer.
         reporter.line(f"open {counted(count, 'match')} of an earlier `play`; {'its' if count == 1 else 'their'} players are sent ABORT")
     reporter.draw("checking the records")
     playing.results, faults, misfits = check_records(plan, playing.referee)
@@ -318,7 +318,7 @@ def prepare(playing: Playing) -> None:
 
 def play(playing: Playing) -> dict[str, str]:
     """Plays all matches. The caller holds the lock of the directory. Returns the reason for each match without a lawful record."""
-    # A shell usually lets a process open fewer files than many open matches need.
+    # A shell usually lets a process open too few files for many open matches.
     allow_files()
     if sys.version_info < (3, 12):
         # The default is a thread for each process.

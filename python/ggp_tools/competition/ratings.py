@@ -41,7 +41,7 @@ def likeliest(points: numpy.ndarray) -> list[tuple[float, float]] | None:
         chances = 1 / (1 + numpy.exp(numpy.clip(logs - logs[:, None], -700, 700)))
         information = -met * chances * chances.T
         information -= numpy.diag(information.sum(axis=1))
-        # No result says anything about the sum of all ratings. This adds 1 for the sum, so that the matrix has an inverse.
+        # The results do not determine the sum of all ratings. Adding 1 for the sum gives the matrix an inverse.
         information += 1 / len(met)
         try:
             step = numpy.linalg.solve(information, won - (met * chances).sum(axis=1))

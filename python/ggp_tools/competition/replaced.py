@@ -7,7 +7,7 @@ from ggp_tools.competition.schedule import Match
 from ggp_tools.match_log import SHORTAGE
 
 Texts = Sequence[str]
-# At most this many replaced moves are listed, and at most this many of one match.
+# The maximum numbers of listed replaced moves, in total and of one match.
 MOST_REPLACED, MOST_OF_MATCH = 20, 3
 
 

@@ -27,8 +27,8 @@ GAMES = threading.Lock()
 
 @dataclass(frozen=True)
 class Retirement:
-    """Why a role was retired or has forfeited its match: the kinds of its errors, the last turn with one, and the first such turn if these turns are
-    not consecutive."""
+    """Why a role was retired or has forfeited its match: the kinds of its errors, the last turn with an error, and the first such turn if these turns
+    are not consecutive."""
 
     errors: tuple[str, ...]
     turn: int
@@ -70,7 +70,7 @@ class Result:
 
     def counted(self) -> tuple[int | None, ...]:
         """Returns the goals that count, by role, each None if the match has no goals. A player that forfeits gets 0. A single opponent gets the full
-        goal, because its own goal results from moves that no player chose. Several opponents keep their goals, or share the full goal if there are
+        goal, because its own goal depends on moves that no player chose. Several opponents keep their goals, or share the full goal if there are
         none."""
         lost, roles = self.forfeits(), range(len(self.retirements))
         if not lost:

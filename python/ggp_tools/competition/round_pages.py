@@ -12,7 +12,7 @@ from ggp_tools.competition.rounds import (
 from ggp_tools.competition.schedule import Match
 from ggp_tools.competition.table_text import count_of_planned, points_text
 
-# A round, a pair, whose second player may be missing, and their points, goals and matches.
+# A round, a pair of players (the second may be missing), and their points, goals and matches.
 Row = tuple[int, tuple[str, str], list[str]]
 # A player in a bracket, its points, and whether it advances. The name is empty as long as it is not known.
 Place = tuple[str, str, bool]

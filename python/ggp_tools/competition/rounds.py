@@ -140,7 +140,7 @@ def swiss_round(competition: Competition, number: int, scores: Scores, withdrawn
     order = sorted((player.name for player in competition.players if player.name not in withdrawn), key=scores.swiss_order)
     byes: tuple[str, ...] = ()
     if len(order) % 2:
-        # Of the players with the fewest byes, the lowest in the standings.
+        # The lowest in the standings of the players with the fewest byes.
         byes = (min(reversed(order), key=lambda player: scores.byes[player]),)
         order.remove(byes[0])
     return Round(number, tuple(paired(order, scores.met)), byes)
@@ -179,7 +179,7 @@ class Rounds:
     def __init__(self) -> None:
         self.found: list[Round] = []
         self.scores: Scores | None = None
-        # The results so far, in how many whole rounds each player was absent, and how many rounds have been counted.
+        # The results so far, the number of whole rounds from which each player was absent, and the number of rounds that have been counted.
         self.results: list[Result] = []
         self.absences: Counter[str] = Counter()
         self.counted = 0
@@ -264,7 +264,7 @@ def meetings(competition: Competition, found: Round) -> list[tuple[str, tuple[st
 
 
 def scores_of(competition: Competition, rounds: Sequence[Round], results: Iterable[Result], withdrawn: Mapping[str, str] | None = None) -> Scores:
-    """Returns the scores of these rounds, from the results that count if these players have withdrawn. By default, these are the players that
+    """Returns the scores of these rounds. Uses only the results that count if these players have withdrawn. By default, these are the players that
     competition.toml or the rounds name as withdrawn."""
     withdrawn = withdrawn_by(competition, rounds) if withdrawn is None else withdrawn
     scores, counted = Scores(competition), [result for result in results if not competition.is_void(result.match.players, withdrawn)]

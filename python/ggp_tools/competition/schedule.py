@@ -47,9 +47,9 @@ class Match:
 
 
 def circle_steps(count: int, roles: int, rounds: int) -> Iterator[tuple[int, ...]]:
-    """Yields for each block of matches how far the player of each role is from that of the first role, in a circle of all players. A block has a match
-    for each place in the circle, so each player has each role once. With two roles, each distance occurs once in a round. With more roles, the
-    distance is the one at which players have met least often."""
+    """Yields for each block of matches the distance from the player of the first role to that of each role, in a circle of all players. A block has a
+    match for each place in the circle, so each player plays each role once. With two roles, each distance occurs once in a round. With more roles,
+    the distance is the one at which players have met least often."""
     if roles == 1:
         yield from [(0,)] * rounds
         return
@@ -106,7 +106,7 @@ def asked(competition: Competition, roles: Mapping[str, int]) -> list[tuple[str,
 
 
 def refuse_numbers(competition: Competition, roles: Mapping[str, int]) -> None:
-    """Refuses games and lines whose roles do not fit the number of players."""
+    """Refuses games and lines whose number of players does not fit the roles."""
     form, count, mistakes = competition.form, len(competition.players), []
     for line in form.lines:
         name, *players = line.text.split()

@@ -18,7 +18,7 @@ if typing.TYPE_CHECKING:
     from ggp_tools.competition.live_site import LiveSite
 
 MOST_CONNECTIONS, MOST_DELAY = 4_096, 3_600
-# At most this many files are open besides the connections.
+# The maximum number of open files besides the connections.
 OTHER_FILES = 64
 NAME = "[A-Za-z0-9]([A-Za-z0-9.-]{0,251}[A-Za-z0-9])?"
 ORIGIN = re.compile(f"(https?)://({NAME})(?::([0-9]{{1,5}}))?", re.IGNORECASE)

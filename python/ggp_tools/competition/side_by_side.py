@@ -28,8 +28,8 @@ def called(at: int) -> object:
 
 
 def made_side_by_side(function: Callable[..., object], calls: Sequence[tuple]) -> Iterator[typing.Any]:
-    """Yields what a function returns for each of these arguments, in order. Several processes make the calls if there are many, unless this process
-    has other threads: then it cannot fork safely."""
+    """Yields what a function returns for each of these arguments, in order. Several processes share many calls, unless this process has other
+    threads, because then it cannot fork safely."""
     if len(calls) < MANY or PROCESSORS == 1 or threading.active_count() > 1:
         yield from itertools.starmap(function, calls)
         return

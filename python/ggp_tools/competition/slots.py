@@ -50,8 +50,8 @@ class Slots:
         return not is_last
 
     def next_match(self, waiting: MutableSequence[Match], now: float) -> Match | None:
-        """Removes the first waiting match that can begin, takes its slots, and returns it. If there is none, there is no further search until a slot
-        is given back or a player has rested."""
+        """Removes the first waiting match that can begin, takes its slots, and returns it. If no match can begin, the next search waits until a slot
+        is free again or a player has rested."""
         if now < self.idle_until:
             return None
         if any(self.free[player] > 0 and self.rests_until[player] <= now for player in self.free):

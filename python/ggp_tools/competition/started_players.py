@@ -22,11 +22,11 @@ from ggp_tools.reporting import Reporter
 HERE, NOWHERE = "127.0.0.1", "127.0.0.1:1"
 # A player must end within this many seconds.
 END_SECONDS = 15
-# The first pause between two INFO messages to a player that is starting. Each pause is twice as long as the one before, up to a second.
+# The first pause between two INFO messages to a player that is starting. Each pause is twice as long as the previous one, up to a second.
 FIRST_PAUSE, LONGEST_PAUSE = 0.05, 1.0
 # A larger log is renamed, and replaces the one that was renamed before.
 MOST_BYTES = 1 << 20
-# If this many bytes come at once, the next ones are read after a pause, so that a player cannot slow down matches.
+# After this many bytes at once, there is a pause before the next ones are read, so that a player cannot slow down matches.
 CHUNK, CHUNK_PAUSE = 1 << 16, 0.02
 # If a player does not start, at most this many of its last lines are reported.
 LAST_LINES = 5
@@ -79,7 +79,7 @@ class StartedPlayer:
         self.job, self.address, self.port, self.was_started = None, NOWHERE, 0, False
         self.lock, self.matches, self.reported_lines = asyncio.Lock(), set(), []
         self.watching: asyncio.Task | None = None
-        # Why it is not running, and is not started again.
+        # The reason why the player is not running and is not started again.
         self.over = ""
 
     def place(self) -> str:
@@ -89,7 +89,7 @@ class StartedPlayer:
         return self.job is not None and not self.job.running.done()
 
     async def ready(self, match: str) -> None:
-        """Starts the player for a match, unless it is running. If it does not start, that is reported, and it is silent in the match."""
+        """Starts the player for a match, unless it is running. If the player does not start, reports that; the player is silent in the match."""
         async with self.lock:
             if self.command.restart == EACH_MATCH:
                 await self.end()
@@ -128,7 +128,7 @@ class StartedPlayer:
             self.reporter.line(f"down {match} {self.name}: | {line}")
 
     async def came_up(self) -> str:
-        """Starts the process, and waits until it answers INFO. Returns why it does not, or an empty text."""
+        """Starts the process, and waits until it answers INFO. Returns the reason if it does not, or an empty text."""
         command, launcher = self.command, launcher_of(self.folder, self.name, self.command)
         job = Job(self.log.take, lambda line: self.log.write(line + b"\n"), "player", END_SECONDS)
         self.job = job
@@ -151,7 +151,7 @@ class StartedPlayer:
         return f"it did not answer INFO within {command.start_seconds} s; it may need more `start_seconds`{more}"
 
     async def watch(self, job: Job) -> None:
-        """Waits until the player ends by itself, and reports that for each match that it is playing, or once between matches."""
+        """Waits until the player ends by itself. Reports the end for each match that it is playing, or once if there is none."""
         await asyncio.wait([job.running])
         words, last = self.with_restart(words_of_end(job)), "".join(f": {line}" for line in self.log.last_lines()[-1:])
         for match in [f"{match} " for match in sorted(self.matches)] or [""]:
@@ -211,7 +211,7 @@ class StartedPlayers:
 
 
 def program_of(folder: Folder, word: str) -> str:
-    """Returns a program. A path is relative to the directory of the competition; a name is searched for in PATH."""
+    """Returns a program. A path is relative to the directory of the competition, and a name is searched for in PATH."""
     return str((folder.path / word).absolute()) if "/" in word else word
 
 

@@ -21,7 +21,7 @@ FINAL = "final"
 @dataclass(frozen=True)
 class Rating:
     """A player's rating, half the length of its 95% interval, and the group in which ratings can be compared. A player without a group has no rating.
-    A group has no ratings if its results limit the strengths so little that they cannot be computed with floating-point numbers."""
+    A group has no ratings if floating-point numbers are too imprecise to compute them from its results."""
 
     rating: float | None
     half: float | None
@@ -46,7 +46,7 @@ class Line:
     absent: int = 0
     retired: int = 0
     rating: Rating | None = None
-    # Set only in the table of all games, and only if the competition is played in rounds.
+    # Only the table of all games of a competition in rounds has byes.
     byes: int = 0
     round_points: float | None = None
     buchholz: float | None = None
@@ -89,7 +89,7 @@ class Table:
     withdrawn: Sequence[str] = ()
 
     def standings(self) -> list[Line]:
-        """Returns the lines of the players that have played, in order. Equal ones have the order of competition.toml."""
+        """Returns the lines of the players that have played, in order. Equal lines are in the order of competition.toml."""
         return sorted((line for line in self.lines.values() if line.matches or line.byes), key=lambda line: line.order(self.by))
 
     def ranks(self) -> list[int]:

@@ -43,7 +43,7 @@ def method_of(competition: Competition) -> str:
 
 
 def in_order(plan: Plan, results: Mapping[str, Result]) -> list[Result]:
-    """Returns the results in the order of the schedule, with its current matches."""
+    """Returns the results in the order of the schedule, each with its match as the schedule has it now."""
     pairs = ((results[match.id], match) for match in plan.matches if match.id in results)
     return [result if result.match is match else replace(result, match=match) for result, match in pairs]
 
@@ -224,7 +224,7 @@ def joined(plans: Sequence[Plan]) -> Plan:
             if rules.setdefault(name, ground).sum != ground.sum:
                 raise Refused(f"the rules of {name} in {plan.folder.path} differ from those in an earlier directory")
     anchor = {name: rating for competition in competitions[::-1] for name, rating in competition.anchor.items()}
-    # The table explains forfeits if they are the same in all competitions.
+    # The table explains forfeits only if their rules are the same in all competitions.
     has_same_forfeits = len({(competition.forfeit, competition.faults) for competition in competitions}) == 1
     forfeit, faults = (first.forfeit, first.faults) if has_same_forfeits else (False, Faults(0))
     whole = replace(

@@ -29,8 +29,8 @@ def extent_of(file: BinaryIO) -> Extent:
 
 
 class Tail(Generic[T]):
-    """The parsed lines of a growing file. Each read continues where the last one ended, or at the beginning if the file was replaced or cut. Once the
-    file is gone, a later file, which has the same lines, is read instead."""
+    """The parsed lines of a growing file. Each read continues where the last one ended, or at the beginning if the file was replaced or cut. If the
+    file is gone, reads `later` instead, a file with the same lines."""
 
     def __init__(self, path: str, parse: Callable[[bytes], T | None], later: str = "") -> None:
         self.path, self.parse, self.later = path, parse, later

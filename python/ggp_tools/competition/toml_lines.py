@@ -21,8 +21,8 @@ KEY = re.compile(r"\s*([A-Za-z0-9_-]+)")
 
 # The time that Python's parser takes for a dotted key grows with the square of the number of dots, so more dots are refused.
 MOST_DOTS = 100
-# Each key, table and member of an array has one of these signs. Each value takes memory, so a file with more signs is refused. This many suffice for
-# the longest schedule and the maximum number of players.
+# Each key, table and member of an array has one of these signs. Because each value takes memory, a file may have only this many signs, which suffice
+# for the longest schedule and the maximum number of players.
 SIGNS, MOST_SIGNS = frozenset("=,["), 150_000
 
 

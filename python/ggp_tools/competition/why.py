@@ -37,8 +37,8 @@ MARKS = {
 
 @dataclass
 class Entry:
-    """Something that happened, with its time, which is empty if unknown, and its role, which is None if it concerns all roles. The journal and the
-    log may be from two computers whose clocks differ."""
+    """An event, with its time (empty if unknown) and its role (None if the event concerns all roles). The journal and the log may be from two
+    computers whose clocks differ."""
 
     time: str
     role: int | None
@@ -72,8 +72,8 @@ def merged(*parts: list[Entry]) -> list[Entry]:
 
 
 def in_order(notes: list[Entry], runs: list[list[Entry]], match_id: str) -> list[Entry]:
-    """Merges the notes of the journal and the runs of the log. Both are about one role. A run comes between the notes of its beginning and its end,
-    and the notes about the player are placed by their times. The log may lack the first runs."""
+    """Merges the notes of the journal and the runs of the log. Both are about one role. A run comes between the notes about its beginning and its
+    end. Notes about the player are placed by their times. The log may lack the first runs."""
     before, *begun = parts_at(notes, f"begin {match_id} ")
     if not begun:
         return [*notes, *sum(runs, [])]
@@ -124,7 +124,7 @@ class Explanation:
         return [[self.entry_of(message, run is runs[-1]) for message in run] for run in runs]
 
     def entry_of(self, message: Message, counts: bool) -> Entry:
-        """Explains a message to a role and its answer. If it is in the record, this says what was played."""
+        """Explains a message to a role and its answer. If the message is in the record, this also says what was played."""
         head = f"turn {message.turn()}: {PLAY}" if message.kind == PLAY else str(message.kind)
         came = message_of(message.came())
         text = f"{head} brought {came} after {message.ms} ms" if message.error else f"{head} was answered `{came}` after {message.ms} ms"

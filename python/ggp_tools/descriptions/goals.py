@@ -10,7 +10,8 @@ MOST_NAMED = 3
 
 
 def goals_said(text: str, role: str, terms: Sequence[str]) -> str:
-    """Describes the goals of a role in a state, with the sentences that derive each. The text is empty if the description cannot be interpreted."""
+    """Describes the goals of a role in a state, and the sentences that derive each goal. The text is empty if the description cannot be
+    interpreted."""
     try:
         game = Game(text)
         state, name = frozenset(map(term_of, terms)), term_of(role)

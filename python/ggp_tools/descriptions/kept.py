@@ -10,7 +10,7 @@ import shutil
 from ggp_tools.competition.files import opened_file, write_whole
 
 HERE = pathlib.Path(__file__).resolve().parent
-# If there are more results than this, those that have not been used for the longest time are deleted.
+# The cache keeps this many results, and deletes the least recently used ones.
 MOST_KEPT = 200
 KIND = "instantiated"
 
@@ -22,7 +22,7 @@ def cache() -> pathlib.Path:
 
 
 def sealed(name: str, data: bytes) -> bytes:
-    """Returns the contents of a cached file with this name. They are not accepted under a different name."""
+    """Returns the contents of a cached file with a checksum over the contents and the name, so that the file is invalid under another name."""
     return hashlib.sha256(f"{name}\n".encode() + data).hexdigest().encode() + b"\n" + data
 
 
@@ -44,8 +44,7 @@ def cached(kind: str, name: str) -> bytes | None:
 
 
 def store(kind: str, name: str, data: bytes, most: int) -> None:
-    """Stores a private file, and keeps only the `most` files of this kind that were used last. If the file cannot be written, its contents are
-    computed again the next time."""
+    """Stores a private file, and keeps only the `most` most recently used files of this kind. Ignores errors: a missing result is computed again."""
     with contextlib.suppress(OSError, RuntimeError):
         folder = cache() / kind
         folder.mkdir(parents=True, exist_ok=True)
@@ -55,13 +54,13 @@ def store(kind: str, name: str, data: bytes, most: int) -> None:
 
 
 def sources() -> list[pathlib.Path]:
-    """Returns the code that a result depends on."""
+    """Returns the files of the code that a result depends on."""
     shared = (HERE.parent / name for name in ("gdl.py", "kif.py", "printable.py"))
     return sorted([*(HERE.parent / "instantiating").glob("*.py"), *shared])
 
 
 def sum_of_work(text: bytes, options: list[str]) -> str:
-    """Returns the checksum of everything that a result depends on. The time limit is not part of it."""
+    """Returns the checksum of everything that a result depends on, which excludes the time limit."""
     checksum = hashlib.sha256()
     # The size and the time of its file identify the grounder, because getting its version would mean running it.
     path = shutil.which("gringo")

@@ -37,8 +37,8 @@ class Stopped(NoDescription):
 
 @dataclass(frozen=True)
 class Rules:
-    """The ground description of a game: its text, checksum and roles. `player_rules` is the description for players, if that is not the same text.
-    `description_sum` is the checksum of the file that all this was made from, if known."""
+    """The ground description of a game: its text, checksum and roles. `player_rules` is the description for players, if it differs from the text.
+    `description_sum` is the checksum of the source file, if known."""
 
     text: bytes
     sum: str
@@ -92,7 +92,7 @@ def why_not(made: subprocess.CompletedProcess) -> str:
 
 
 def instantiated(path: pathlib.Path, text: bytes, tells_variables: bool, seconds: float, is_large: bool = False) -> tuple[bytes, bytes | None]:
-    """Returns the ground description that `ggp-instantiate` makes of a file, and the description for players if it is needed."""
+    """Returns the ground description that `ggp-instantiate` makes from a file, and the description for players if it is needed."""
     large = ["--large"] if is_large else []
     key = kept.sum_of_work(text, [*large, *(["--player-rules"] if tells_variables else [])])
     if result := kept.kept(key):
@@ -118,8 +118,8 @@ def rules_of(
     text: bytes, name: pathlib.Path | str, referee: Referee, player_rules: bytes | None = None, description_sum: str | None = None,
     notes: tuple[str, ...] = (),
 ) -> Rules:
-    """Returns the rules of a ground description, as the referee reads it. If it exceeds the usual limits, the large ones apply. Refuses rules that
-    the referee refuses, with the referee's message."""
+    """Returns the rules of a ground description, with the roles that the referee reads in it. If the description exceeds the usual limits, the large
+    ones apply. If the referee refuses the rules, raises an error with its message."""
     large = referee.taking(True)
     programs = [large] if referee.is_large or LARGE_NOTE in notes_of(text) else [referee, large]
     for program in programs:
@@ -161,7 +161,7 @@ def load_description(path: pathlib.Path, referee: Referee, tells_variables: bool
 
 
 def load_described(path: pathlib.Path, described: pathlib.Path, referee: Referee, tells_variables: bool) -> Rules:
-    """Returns the rules of a ground file. The text for players is made from the description with variables that belongs to it."""
+    """Returns the rules of a ground file. The text for players is made from the matching description with variables."""
     ground = read_text(path)
     if has_variables(ground):
         raise NoDescription("it has variables, so it needs no other description")

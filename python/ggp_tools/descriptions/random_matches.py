@@ -18,7 +18,7 @@ from ggp_tools.records.record import is_list, is_text, list_of
 from ggp_tools.referee import Referee, read_objects, rules_file, unchecked
 from ggp_tools.reporting import REDRAWN, Reporter
 
-# The number of bytes of a script, and of matches, for one run of `desk`. Both are below its limits.
+# The most bytes of a script and the most matches in one run of `desk`, whose limits are higher.
 MOST_BYTES, MOST_MATCHES = 1_000_000, 1_000
 # The bytes of a script that are reserved for lines that do not belong to a turn.
 BESIDE_TURNS = 10_000
@@ -29,7 +29,7 @@ def sum_of(texts: list[str]) -> bytes:
 
 
 def sum_of_state(state: State | bytes) -> bytes:
-    """Returns the checksum of a state, which may be known already."""
+    """Returns the checksum of a state, which may be given as a checksum."""
     return state if isinstance(state, bytes) else sum_of(texts_of(state))
 
 
@@ -40,7 +40,7 @@ class Played(Match):
 
     def __init__(self, game: Game, name: str, players: list[str]) -> None:
         super().__init__(game, name, 1, 1, players)
-        # The number of bytes left in a script, and the number of turns that fit into it, with the state after these turns.
+        # The bytes that are left in a script; the number of turns that fit into the script, and the state after them.
         self.room, self.held = MOST_BYTES - BESIDE_TURNS, (0, self.states[0])
 
     def turn(self, judged: list[tuple]) -> None:
@@ -51,7 +51,7 @@ class Played(Match):
             self.held = len(self.moves), self.states[-1]
 
     def shorten(self) -> None:
-        """Cuts the match to the turns that fit into one script."""
+        """Drops the turns that do not fit into one script."""
         turns, state = self.held
         self.moves, self.errors, self.states = self.moves[:turns], self.errors[:turns], [*self.states[:turns], state]
         self.marks["end"] = {}
@@ -59,8 +59,8 @@ class Played(Match):
 
 @dataclass
 class Ended:
-    """A finished match: its seed, number of turns and goals, and the maximum number of legal moves of each role. An aborted match has a cause with
-    the role's name, and its last state if it is the first match with that cause."""
+    """A finished match: its seed, number of turns and goals, and the maximum number of legal moves of each role. An aborted match also has its cause
+    with the role's name, and its last state if it is the first match with this cause."""
 
     seed: int
     turns: int
@@ -128,7 +128,7 @@ class RandomMatches:
 
     def hand_in(self, seed: int, match: Played, record: dict) -> None:
         if any(is_too_long(move) for moves in match.moves for move in moves):
-            # The desk accepts no answer that long.
+            # The desk does not accept such a long answer.
             self.too_long += 1
             return
         lines = list(lines_of(match))

@@ -1,4 +1,4 @@
-"""Explains why the referee refuses a ground description. The referee itself names the place of only one sentence."""
+"""Explains why the referee refuses a ground description. The referee itself reports the place of only one sentence."""
 
 import itertools
 from collections.abc import Iterator

@@ -1,5 +1,5 @@
-"""Finds sentences in a description that the referee accepts but that are suspicious. A sentence that may be correct is not reported. If its instances
-are unknown because it has variables, it counts as correct."""
+"""Finds sentences in a description that the referee accepts but that are suspicious. A sentence that may be correct is not reported. A sentence with
+variables whose instances are unknown counts as correct."""
 
 import difflib
 import itertools
@@ -115,8 +115,8 @@ class Index:
                 self.table.setdefault(place, []).append(atom)
 
     def alike(self, atom: Expression) -> Iterable[Expression]:
-        """Returns candidates that agree with an atom at one path, the one with the fewest candidates."""
-        # Atoms with a variable at a path, or at one above it, may have any value there.
+        """Returns candidates that agree with an atom at one path: the path with the fewest candidates."""
+        # An atom with a variable at a path, or above the path, may have any value there.
         groups = (
             [self.table.get((way[:length], None), ()) for length in range(len(way) + 1)] + [self.table.get((way, word), ())]
             for way, word in places(atom) if word is not None
@@ -349,7 +349,7 @@ class Search:
         return Finding(part, words, ("undefined", key))
 
     def names_like(self, count: int | None) -> list[str]:
-        """Returns the names of relations with this number of arguments. The list is empty after too many comparisons, because these are slow."""
+        """Returns the names of relations with this number of arguments. After too many comparisons, which are slow, the list is empty."""
         names = [name for number in ((count,) if count else (None, 0)) for name, _ in self.names.get(number, ())]
         self.compared += len(names)
         return names if self.compared <= MOST_COMPARED else []
@@ -367,7 +367,7 @@ class Search:
                     yield from self.of_instance(atom, words, ("role", atom[1]))
 
     def of_instance(self, atom: Expression, words: str, kind: tuple) -> Iterator[Finding]:
-        """Yields the finding for an instance, at the head that it comes from if only one is possible."""
+        """Yields the finding for an instance. If only one head can have this instance, the finding has the place of that head."""
         parts = [] if atom in self.parts else [part for head in self.heads.like(atom) for part in self.parts[head]]
         if parts:
             is_sure = len(parts) == 1
@@ -386,7 +386,7 @@ class Search:
 
 
 class Suspicions(NamedTuple):
-    """The suspicious sentences, in lines, and why the check is incomplete. The reason is empty if the check is complete."""
+    """The suspicious sentences, in lines, and the reason why the check is incomplete, which is empty if it is complete."""
 
     lines: list
     cut: str

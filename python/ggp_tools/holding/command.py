@@ -21,7 +21,7 @@ STATUS = """RECORD is a file with a record on each line, by default standard inp
 match the description. 1: a record differs; its line says where. 2: usage error, or a file cannot be read. 3: no record is known to differ, but at
 least one could not be checked, because it took too long or the description is not supported."""
 SECONDS = 60.0
-# Nested rules are evaluated with nested calls.
+# The interpreter evaluates nested rules with nested calls.
 MOST_CALLS = 100_000
 # The limit of memory, the same as for the grounder of `ggp-instantiate`.
 MEMORY = 2 << 30
@@ -38,8 +38,8 @@ def arguments() -> argparse.Namespace:
 
 
 class Holding:
-    """Checks records against one description. `following` is None until the description is parsed. Its caches are used for all records. If a check is
-    interrupted, they may be incomplete, so they are dropped."""
+    """Checks records against one description. `following` is None until the description is parsed. All records share its caches. After an interrupted
+    check these may be incomplete, so they are dropped."""
 
     def __init__(self, text: str, name: str = "the description") -> None:
         self.text, self.name, self.following = text, name, None
@@ -68,7 +68,7 @@ class Holding:
         return SAME, f"the same: {counted(turns, 'turn')}"
 
     def game(self) -> Game:
-        """Parses the game. Refuses an invalid description, and names the place of the error."""
+        """Parses the game. If the description is invalid, raises an error with the place."""
         try:
             return Game(self.text)
         except Refused as why:

@@ -1,6 +1,6 @@
-"""Compiles rules to Python functions. There is one for each relation and each set of arguments that are known when the relation is queried.
+"""Compiles rules to Python functions. Each relation has one function for each set of arguments that a query gives.
 
-If all arguments are known, the function returns whether the sentence is true, and otherwise it returns the unknown arguments of all answers, without
+If a query gives all arguments, the function returns whether the sentence is true. Otherwise it returns the missing arguments of all answers, without
 duplicates. Results are cached for each position. Relations that depend on themselves are derived completely, bottom-up from the facts. """
 
 from collections.abc import Callable, Iterable, Iterator, Sequence
@@ -116,7 +116,7 @@ class Lines:
     # ---- Terms -----------------------------------------------------------------------------------
 
     def match(self, place: int, pattern: Term, value: str, bound: Bound) -> None:
-        """Writes lines that continue with the next answer if a value does not match the pattern. Binds the variables of the pattern."""
+        """Writes lines that skip the answer if a value does not match the pattern. Binds the variables of the pattern."""
         if is_variable(pattern) and pattern not in bound:
             bound[pattern] = value
         elif is_known(pattern, bound):
@@ -166,7 +166,7 @@ class Lines:
         return 2 if isinstance(condition, Either) else 0
 
     def texts(self, relation: tuple, arguments: list, bound: dict[str, str]) -> list[str]:
-        """Returns expressions for the arguments of a query. In a relation that queries itself, terms may grow, so `low` limits their depth."""
+        """Returns expressions for the arguments of a query. If the relation queries itself, terms may grow, so `low` limits their depth."""
         may_grow = relation in self.program.relations.denying
         found = [(argument, term_text(argument, bound)) for argument in arguments]
         return [f"low({text})" if may_grow and is_built(argument) else text for argument, text in found]
@@ -259,7 +259,7 @@ class Lines:
     # ---- Bodies ----------------------------------------------------------------------------------
 
     def body(self, place: int, conditions: Iterable[Condition], bound: Bound, finish: "Finish") -> None:
-        """Writes the lines that check all conditions in the cheapest order. `finish` writes what happens for each way to satisfy them."""
+        """Writes the lines that check all conditions in the cheapest order. `finish` writes the lines that run for each way to satisfy them."""
         left, depth = list(conditions), 0
         while True:
             for test in sorted((condition for condition in left if is_test(condition, bound)), key=self.cost):
@@ -291,7 +291,7 @@ class Lines:
         return min(binding, key=lambda condition: self.program.sizes.answers(condition, bound))
 
     def product(self, place: int, groups: list[list[Condition]], bound: Bound, finish: "Finish") -> None:
-        """Writes the lines that check groups of conditions without common variables, each group only once."""
+        """Writes the lines that check groups of conditions. The groups have no variables in common, and each is checked only once."""
         answers = []
         for group in sorted(groups, key=lambda group: self.program.sizes.answers(self.least(group, bound), bound)):
             own = {name for condition in group for name in variables_of(condition)}
@@ -311,7 +311,7 @@ class Lines:
 
     def helper(self, left: list[Condition], bound: Bound, finish: "Finish", answers: str = "F") -> str:
         """Returns a call of a new function that checks conditions. The function returns whether the conditions can be satisfied, or adds the answers
-        to those so far and returns them."""
+        to the earlier ones and returns all."""
         name, needed = self.program.fresh("h"), {variable for condition in left for variable in variables_of(condition)} | set(finish.names)
         live = {variable: text for variable, text in bound.items() if variable in needed}
         inner, names = Lines(self.program, self.extra), {variable: self.program.fresh("v") for variable in live}
@@ -386,7 +386,7 @@ class Derived:
         lines.put(place, f"W.add({self.number}, {self.row(bound)})")
 
 
-# What happens when all conditions of a body hold.
+# The action when all conditions of a body hold.
 Finish = Truth | Answer | Derived
 
 
@@ -415,7 +415,7 @@ class Asking:
         return lines.text() + "\n".join(self.kept()) + "\n"
 
     def is_plain(self) -> bool:
-        """Returns whether there are no variables, so that the relation is true if one of several tests holds."""
+        """Returns whether the rules have no variables, so that the relation is true if one of several tests holds."""
         relations = self.program.relations
         rules = () if self.known or self.relation in relations.circles or self.relation in relations.denying else relations.rules.get(self.relation, ())
         return bool(rules) and all(is_test(condition, {}) for rule in rules for condition in rule.body)

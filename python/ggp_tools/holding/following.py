@@ -43,14 +43,15 @@ def canonical_term(text: str) -> Term:
 
 
 class Following:
-    """The game, with caches of terms and their texts. For each role and move, `seen` has the first sentence that derived the move so far."""
+    """The game, with caches of terms and their texts. For each role and move, `seen` has the first of the sentences that have derived the move so
+    far."""
 
     def __init__(self, game: Game) -> None:
         self.game, self.seen, self.in_order = game, {}, list(game.roles)
         self.text, self.term = functools.cache(spelled), functools.cache(canonical_term)
 
     def follow(self, record: dict) -> int:
-        """Checks a record to its end. Returns its number of turns."""
+        """Checks a whole record, and returns its number of turns."""
         self.look_at_roles(record["roles"])
         state = self.game.initial
         self.look_at_state("the first state", state, record["states"][0], lambda term: self.cited(INIT, (term,), frozenset()))
@@ -80,7 +81,7 @@ class Following:
         raise Differs("\n".join(lines or [f"{when} contains a term twice"]))
 
     def cited(self, relation: Relation, arguments: Sequence[Term], state: State, moves: Sequence[Term] = ()) -> str:
-        """Returns the beginning of a clause, such as `sentence 3 gives`, with the sentences that derive this in a state."""
+        """Returns the beginning of a clause, such as `sentence 3 gives`: it cites the sentences that derive an atomic sentence in a state."""
         numbers = self.game.sources(relation, arguments, state, self.own_order(moves))
         return " and ".join(f"{self.game.cited(number)} gives" for number in numbers[:MOST_TOLD]) or "the description gives"
 
@@ -126,14 +127,14 @@ class Following:
                 raise Differs(f"{when}: {words}, by {self.game.cited(greatest[0])}")
 
     def least_place(self, role: str, move: Term) -> tuple[int, tuple]:
-        """Returns the earliest possible place of a move: that of the first sentence that could derive it in some state."""
+        """Returns the earliest possible place of a move: that of the first sentence that could derive the move in some state."""
         for number, rules in self.game.by_sentence(LEGAL).items():
             if any(fits(rule.arguments, (role, move), {}) for rule in rules):
                 return number, place(move)
         raise NotFollowed(f"no head of a sentence fits the legal move {quoted(move)}")
 
     def greatest_place(self, position: Position, role: str, move: Term) -> tuple[int, tuple]:
-        """Returns the latest possible place of a move: that of the first sentence that derived it so far."""
+        """Returns the latest possible place of a move: that of the first sentence that has derived the move so far."""
         numbers = self.game.sources(LEGAL, (role, move), position.state)
         first = min([*numbers, self.seen.get((role, move), numbers[0])])
         self.seen[role, move] = first
@@ -166,7 +167,7 @@ class Following:
             raise Differs(f"{quoted(role)} has the goal {value} in the record, but according to the description {'; '.join(reasons) or 'none'}")
 
     def look_at_missing_goal(self, position: Position, at: int) -> None:
-        """Checks the role for whose goals a match was given up: it must be the first without exactly one goal."""
+        """Checks the role whose goals ended a match: it must be the first role without exactly one goal."""
         counts = [len(self.game.goals(position, role)) for role in self.in_order]
         without = next((place for place, count in enumerate(counts) if count != 1), None)
         if without != at:
@@ -175,7 +176,7 @@ class Following:
             raise Differs(f"{why}, but according to the description {words}")
 
     def look_at_legal(self, position: Position, at: int | None) -> None:
-        """Checks which role has no legal move."""
+        """Checks the role without a legal move whose turn ended a match."""
         without = next((place for place, role in enumerate(self.in_order) if not self.game.moves(position, role)), None)
         if without != at:
             stuck, recorded = ("none" if place is None else quoted(self.in_order[place]) for place in (without, at))

@@ -14,7 +14,7 @@ from .reading import GOAL, INIT, LEGAL, NEXT, ROLE, TERMINAL, Rule, Term, one_by
 from .relations import Relations
 
 GOAL_NUMBER = re.compile(r"0|[1-9][0-9]?|100")
-# Nested rules are evaluated with nested calls, up to this depth.
+# The interpreter evaluates nested rules with nested calls, up to this depth.
 MOST_CALLS = 20_000
 
 
@@ -37,8 +37,8 @@ class Game:
         self.ranks = {head: rank for rank, head in enumerate(dict.fromkeys(heads))}
 
     def position(self, state: State, moves: Sequence[Term] = ()) -> Position:
-        """Returns the position of a state, with a move of each role if `moves` are given. If a state has many more terms than earlier ones, the rules
-        are planned again."""
+        """Returns the position of a state, with a move of each role if `moves` are given. If a state has many more terms than earlier states, plans
+        the rules again."""
         rows = grouped(state, functor_of)
         if not self.is_ground and (sizes := self.program.sizes.after(rows)):
             self.program = Program(self.program.relations, sizes)
@@ -77,7 +77,7 @@ class Game:
         return position.ask(GOAL, (True, False))(position, role)
 
     def sources(self, relation: Relation, arguments: Sequence[Term], state: State, moves: Sequence[Term] = ()) -> list[int]:
-        """Returns the sentences that derive this in a state."""
+        """Returns the numbers of the sentences that derive an atomic sentence in a state."""
         relations_by_sentence = {number: self.set_apart(relation, number, rules) for number, rules in self.by_sentence(relation).items()}
         if self.kept[0] != (state, moves):
             self.kept = (state, moves), self.position(state, moves)

@@ -10,9 +10,9 @@ from .positions import functor_of
 from .reading import DOES, TRUE, Asked, Condition, Rule, Term, variables_of
 from .relations import Relations
 
-# The number of values that an argument is assumed to have if its relation has no rows yet, and the maximum of an estimate.
+# The assumed number of values of an argument whose relation has no rows yet, and the maximum of an estimate.
 FEW, MOST = 3.0, 1e6
-# If a state has more than GROWTH times as many terms as the plan was made for, the rules are planned again.
+# The rules are planned again for a state with more than GROWTH times as many terms as the plan assumes.
 GROWTH, LEAST = 4, 2
 
 
@@ -48,7 +48,7 @@ class Sizes:
         self.all_terms = float(sum(map(len, terms.values())) or FEW)
 
     def after(self, terms: Mapping[Relation, Collection[Term]]) -> "Sizes | None":
-        """Returns new sizes if a state has many more terms with some functor than the states before, or else None."""
+        """Returns new sizes if a state has many more terms with some functor than earlier states; otherwise None."""
         if all(len(rows) <= GROWTH * max(LEAST, len(self.terms.get(functor, ()))) for functor, rows in terms.items()):
             return None
         larger = {functor: rows for functor, rows in terms.items() if len(rows) > len(self.terms.get(functor, ()))}
@@ -105,8 +105,8 @@ class Sizes:
 
 
 def values_at(place: int, joined: Iterable[tuple[Rule, float, Mapping[str, float]]]) -> float:
-    """Estimates how many values an argument of a relation has, from the rules of the relation: as many as the variables in the argument can have
-    together, or one for each different term without variables."""
+    """Estimates from the rules of a relation how many values an argument has. Variables in the argument count with all their values, and each
+    different term without variables counts as one."""
     most, constants = 1.0, set()
     for rule, _, values in joined:
         argument = rule.arguments[place]

@@ -34,7 +34,7 @@ class Position:
         self.move(pairs)
 
     def move(self, pairs: Sequence[tuple[str, Term]]) -> None:
-        """Sets the moves. Cached results are kept, because they do not depend on moves."""
+        """Sets the moves, and keeps the cached results that do not depend on moves."""
         self.pairs, self.does = pairs, dict(pairs)
 
     def index(self, number: int, functor: tuple[str, int], places: tuple[int, ...]) -> Callable:
@@ -70,7 +70,7 @@ class Whole:
         return table.get
 
     def close(self, variants: list[list[Callable]]) -> None:
-        """Derives all rows: each new row is passed to all rules that use it."""
+        """Derives all rows: passes each new row to all rules that use it."""
         while self.queue:
             number, row = self.queue.pop()
             for variant in variants[number]:

@@ -1,7 +1,7 @@
 """Parses the rules of a description for the interpreter.
 
-The classes below are the conditions of rules. Only sentences that can be derived are negated, and an `or` is kept only if other conditions of the
-rule bind all variables in it. In a ground description each atomic sentence becomes a relation. """
+The classes below are the conditions of rules. In these rules, only relations that can be derived are negated, and other conditions of the rule bind
+all variables of an `or`. In a ground description each atomic sentence becomes a relation. """
 
 from collections.abc import Iterator
 from functools import lru_cache
@@ -17,7 +17,7 @@ OWN = (INIT, NEXT, LEGAL, GOAL, ROLE, TERMINAL)
 
 
 class NotFollowed(Refused):
-    """The reason why a record could not be checked. It says nothing about the game."""
+    """The reason why a record could not be checked, which shows nothing about the game."""
 
 
 class Asked(NamedTuple):

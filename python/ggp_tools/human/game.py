@@ -55,8 +55,8 @@ class Shown:
         }
 
     def placed(self, board: Board) -> dict[str, list[Place]]:
-        """Returns, by move, the places of a board that the move names. Either all moves of a relation name places, or none does: 1 and 2 are not a
-        place in (push 1 2) if there is a (push 0 0). A move with one argument names a column if these arguments are exactly the columns."""
+        """Returns, by move, the places of a board that the move names. Either all moves of a relation name places, or none of them does: (push 1 2)
+        does not name a place if there is a (push 0 0). A move with one argument names a column if these arguments are exactly the columns."""
         named_places: dict[str, list[Place]] = {}
         for group, known in self.known.items():
             places = {move: places_of(move, board) for move in known}

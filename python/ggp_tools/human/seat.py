@@ -95,7 +95,7 @@ class Seat:
         self.asked = 0
         # When the next message of the match must arrive.
         self.expected = 0.0
-        # Set as soon as `match` is set.
+        # `shown` is set whenever `match` is set.
         self.shown: Shown | None = None
         self.view: dict = {"phase": "waiting", "note": NO_MATCH}
         self.role: object = None
@@ -161,7 +161,7 @@ class Seat:
         return bool(self.pages)
 
     def next_message(self, seconds: int = 0) -> int:
-        """Records that a message of a match has arrived, with a clock of this many seconds. Returns its number. Any pending move is cancelled."""
+        """Records that a message of a match has arrived, with a clock of this many seconds. Returns its number. Cancels a pending move."""
         with self.changed:
             self.asked += 1
             self.expected = time.monotonic() + seconds + PATIENCE
@@ -206,7 +206,7 @@ class Seat:
         return asked
 
     def refuse(self, asked: int, note: str) -> None:
-        """Shows why a START was refused. If that START was repeated, its match is no longer played."""
+        """Shows why a START was refused. If this was a repeated START, ends its match."""
         with self.changed:
             if self.asked == asked:
                 self.match = ""

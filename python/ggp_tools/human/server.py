@@ -21,14 +21,14 @@ from ggp_tools.visitors import THIS_COMPUTER, Visitors, client_of
 
 # START has the whole rules, with a space for each atom and each list.
 MOST_BYTES, MOST_MOVE = 33_554_432, 65_536
-# After this many bytes no more of a head is read, because parsing a long one may take minutes.
+# The server stops reading a head after this many bytes, because parsing a longer one may take minutes.
 LONGEST_HEAD = 16_384
 # After this many seconds without a change, the page is sent a line. This also detects that the page was closed.
 ALIVE = 1.0
 # A request must arrive within this many seconds, and one more for each MiB of its body. The client must accept the answer within PATIENCE seconds.
 REQUEST_SECONDS, PATIENCE = 5, 30
-# The maximum number of connections. Of those that begin within PERIOD seconds, at most as many may be of strangers: of clients that are neither the
-# referee nor this computer.
+# The maximum number of connections. Within PERIOD seconds, strangers (clients that are neither the referee nor this computer) may begin at most as
+# many connections.
 MOST_CONNECTIONS, PERIOD = 128, 1.0
 # The maximum number of long bodies that are read at the same time, so that few of them are in memory.
 MOST_LONG = 8
@@ -72,7 +72,7 @@ class Request(io.RawIOBase):
         return self.received / (time.monotonic() - self.began + 0.001)
 
     def is_whole(self) -> None:
-        """Records that the request has arrived: the connection no longer gives way, and the answer gets a separate deadline."""
+        """Records that the request has arrived: the connection is no longer closed for another one, and the answer gets a separate deadline."""
         self.is_idle = False
         self.connection.settimeout(PATIENCE)
         # The kernel ends a connection whose client has disappeared without closing it, for example because its computer is offline.
@@ -212,12 +212,12 @@ class Server(ThreadingHTTPServer):
         super().__init__(address, Handler)
         self.seat, self.page = seat, f"/{secrets.token_urlsafe(16)}/"
         self.visitors, self.requests, self.readers = Visitors(MOST_CONNECTIONS), {}, set()
-        # When the period ends, and the clients of the strangers' connections that began in it.
+        # The end of the period, and the clients of the strangers' connections that began in it.
         self.ends, self.strangers = 0.0, []
 
     def verify_request(self, request: socket.socket, client_address: tuple[str, int]) -> bool:
-        """Returns whether a connection gets a thread. A thread costs much more than a refusal. If there are too many connections, the oldest one without
-        a complete request gives way, but not to a stranger that has used up its share."""
+        """Returns whether a connection gets a thread. A thread costs much more than a refusal. If there are too many connections, the oldest one
+        without a complete request is closed, except for a stranger that has used up its share."""
         client = client_of(client_address[0])
         is_stranger = client != THIS_COMPUTER and client_address[0] not in self.seat.referees
         if is_stranger and not self.is_in_share(client) or not self.visitors.has_room_for(client):
@@ -247,7 +247,7 @@ class Server(ThreadingHTTPServer):
 
     @contextlib.contextmanager
     def reading(self, request: Request) -> Iterator[None]:
-        """Allows a long body to be read. If there are too many, the slowest one of the client that has the most gives way."""
+        """Allows a long body to be read. If there are too many, ends the slowest one of the client that has the most."""
         with self.visitors.lock:
             if len(self.readers) == MOST_LONG:
                 counts = Counter(reader.client for reader in (*self.readers, request))

@@ -53,7 +53,7 @@ def say_suspicions(text: bytes) -> None:
 
 
 def perform(asked: argparse.Namespace) -> int:
-    """Writes the ground description, or reports why there is none."""
+    """Writes the ground description, or reports why it cannot be made."""
     with opened(asked.file) as file:
         data = file.read()
     made = Making(data.decode("latin-1"), asked.seconds, asked.folding, asked.split, asked.large)

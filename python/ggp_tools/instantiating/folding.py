@@ -1,8 +1,8 @@
 """Factors ground rules into fewer and shorter sentences for the same game.
 
-Rules with the same head that differ in only one literal are repeatedly merged into one rule with an `or`. If this makes the text smaller, a sentence
-that is used once, or that only renames another, is inlined, and a formula that many sentences share becomes a sentence. If there are still too many
-sentences, those with the same head are joined and more are inlined, the cheapest in bytes first.
+Rules with the same head that differ in only one literal are repeatedly merged into one rule with an `or`. A sentence that is used once or only
+renames another is inlined, and a formula that many sentences share becomes a sentence, if this makes the text smaller. If there are still too many
+sentences, those with the same head are joined, and more are inlined, the cheapest in bytes first.
 
 The meaning of sentences never changes, so states, moves, goals and ends stay the same. The first sentence of a head keeps its place, so the
 order of roles and of legal moves stays the same too.
@@ -20,14 +20,14 @@ from ggp_tools.gdl import GAME, Rule
 
 # The numbers of the formulas of a body.
 Formed = frozenset[int]
-# Joined sentences are nested at most this deeply.
+# The maximum nesting of joined sentences.
 MOST_DEEP = 48
 ROUNDS = 30
 # A lower bound for the bytes of a sentence with a condition, if the names in it are as short as those of parts.
 LEAST_BYTES = 24
 
 
-# In all tested games, factoring took at least MORE_WORK times the work of the first estimate. If sentences must be inlined, the text shrinks at most
+# In all tested games, factoring took at least MORE_WORK times as much work as first estimated. If sentences must be inlined, the text shrinks at most
 # by the factor SHORTER.
 MORE_WORK, SHORTER = 1.5, 2
 
@@ -46,7 +46,7 @@ class Target(NamedTuple):
 
 class Folded:
     """The game as formulas: the bodies of each head, each a set of formulas that must all be true. For each body, `origins` has the number of its
-    bytes that come from each sentence of the description. Parts have no entry there: they count like the bodies that use them."""
+    bytes that come from each sentence of the description. A part has no entry, because its bytes are divided like those of the bodies that use it."""
 
     def __init__(self, rules: list[Rule]) -> None:
         self.formulas, self.bodies, self.sources = Formulas(), {}, {}
@@ -95,7 +95,7 @@ class Folded:
     # ---- Origins ---------------------------------------------------------------------------------
 
     def costs(self, is_bytes: bool) -> Counter[int]:
-        """Returns how many bytes or sentences of the output are due to each sentence of the description."""
+        """Returns for each sentence of the description how many bytes or sentences of the output come from it."""
         costs, asked_by, known = Counter(), self.asked_by(), {}
         for head, bodies in self.bodies.items():
             for body in bodies:
@@ -195,8 +195,8 @@ class Folded:
         return self.formulas.any([shared_part, self.factored(others, depth + 1)]) if others else shared_part
 
     def join(self, most: int) -> None:
-        """Joins the sentences of one head into one, the cheapest first, until there are at most `most` sentences. Sentences that this makes shorter
-        are joined in any case."""
+        """Joins the sentences of one head into one, the cheapest first, until there are at most `most` sentences. Always joins sentences if that
+        makes them shorter."""
         costs = []
         for head, bodies in self.bodies.items():
             if len(bodies) > 1:
@@ -268,8 +268,8 @@ class Folded:
             self.settle()
 
     def must_have_room(self, target: Target) -> None:
-        """Refuses a game that cannot be factored to within a target, before much work is done. The sentences of the game's own relations stay, so the
-        others above the limit must be inlined. The cost of that in bytes can only grow later."""
+        """Refuses early a game that cannot be factored to within a target. The sentences of the game's own relations stay, so other sentences must be
+        inlined until the limit is met. The bytes that this costs can only grow later."""
         if len(self.own) > target.sentences:
             raise Hopeless(f"sentences (at least {len(self.own):,} of {target.sentences:,})")
         many = len(self.bodies) - target.sentences
@@ -285,7 +285,7 @@ class Folded:
             self.must_be_short(target)
 
     def must_be_short(self, target: Target) -> None:
-        """Refuses a game that is likely to exceed a target with limited work. The length is only estimated."""
+        """Estimates the length, and refuses a game that limited work is unlikely to bring within a target."""
         if target.work < math.inf and self.bytes() > SHORTER * target.bytes:
             raise Hopeless(f"bytes (about {self.bytes() // SHORTER:,} of {target.bytes:,})")
 
@@ -307,7 +307,7 @@ class Folded:
         return self.sentences() <= target.sentences and self.bytes() <= target.bytes
 
     def costs_of_placing(self) -> Iterator[tuple[int, int, int, set[int]]]:
-        """Yields for each head that can be inlined how many bytes this costs, its formula, and the heads that it uses."""
+        """Yields each head that can be inlined: the bytes that inlining costs, its formula, and the heads that it uses."""
         uses, sizes, depths = self.uses(), self.formulas.sizes, self.formulas.depths
         deepest = max((depths[formula] for bodies in self.bodies.values() for body in bodies for formula in body), default=0)
         for head, bodies in self.bodies.items():
@@ -461,8 +461,8 @@ def begun(rules: list[Rule]) -> Folded:
 
 
 def folded(rules: list[Rule], targets: Sequence[Target]) -> Folded:
-    """Factors the game to within the first of these targets that it can reach. Each target is larger than the one before. Refuses the game if it can
-    reach none."""
+    """Factors the game to within the first of these targets that it can reach. Each target is larger than the previous one. Refuses the game if it
+    can reach none of them."""
     game, why = None, None
     for target in targets:
         game = game or begun(rules)

@@ -49,7 +49,7 @@ class Formulas:
         return self.made(("not", number), self.sizes[number] + 6, self.depths[number] + 1)
 
     def any(self, numbers: Iterable[int]) -> int:
-        """Returns the formula that is true if one of these is."""
+        """Returns the formula that is true if one of these formulas is true."""
         members = self.alternatives(numbers)
         self.work += len(members)
         members.discard(FALSE)
@@ -74,7 +74,7 @@ class Formulas:
         return any(count == len(self.moves[role]) for role, count in counts.items())
 
     def all(self, numbers: Iterable[int]) -> int:
-        """Returns the formula that is true if all of these are."""
+        """Returns the formula that is true if all of these formulas are true."""
         return self.no(self.any([self.no(number) for number in numbers]))
 
     def members(self, number: int) -> tuple[int, ...]:
@@ -129,7 +129,7 @@ class Formulas:
         for role, those in grouped((member for member in node[1] if member in self.role_of), self.role_of.get).items():
             others = self.no(self.listed(self.moves[role].difference(those)))
             together = self.listed(those)
-            # This stays a separate `or`, because other sentences may share it.
+            # The rest stays a separate `or`, because other sentences may share it.
             members.append(others if self.sizes[others] < self.sizes[together] else together)
         return members[0] if len(members) == 1 else self.listed(set(members))
 
@@ -142,7 +142,7 @@ class Formulas:
         return "or", *map(self.expression, node[1])
 
     def replaced(self, number: int, known: dict[int, int], is_simplified: bool) -> int:
-        """Returns the formula with the parts that are in `known` replaced. `known` is also the cache. The result may be simplified."""
+        """Replaces the parts of a formula that are in `known`, which is also the cache. May simplify the result."""
         if number not in known:
             node = self.nodes[number]
             if node[0] == "not":

@@ -39,12 +39,12 @@ class LogicProgram:
         return literal.same or relation(literal.atom) not in self.unsettled
 
     def lines_of(self, rule: Rule) -> list[str]:
-        """Returns the lines of a rule. A relation that the grounder can evaluate is derived exactly. For other relations everything that may be true
-        is derived, so negations of them are dropped."""
+        """Returns the lines of a rule. A relation that the grounder can evaluate is derived exactly. For any other relation, the rules derive
+        everything that may be true, so negations of it are dropped."""
         names = {name: f"V{k}" for k, name in enumerate(variables(rule.atoms()))}
         body = [self.literal(literal, names) for literal in rule.body if literal.positive or self.is_settled(literal)]
         if relation(rule.head)[0] not in GAME and relation(rule.head) not in self.unsettled:
-            # Errors cite the first rule with conditions of a relation, or else its first fact.
+            # Errors cite the relation's first rule with conditions, or its first fact if it has no such rule.
             source = self.name(relation(rule.head))
             if source not in self.sources or (body and source not in self.derived):
                 self.sources[source] = rule.sentence
@@ -106,11 +106,11 @@ class TooMany(Refused):
 
 
 class TooSlow(Refused):
-    """The grounder has used up its time."""
+    """The grounder has reached its time limit."""
 
 
 class Grounder:
-    """One run of gringo. It ends when all instances were read, a limit is exceeded, or an exception is raised, for example by the timer."""
+    """One run of gringo. It ends when all instances were read, when a limit is exceeded, or at an exception, for example by the timer."""
 
     def __init__(self, program: LogicProgram, most: int = MOST_INSTANCES, seconds: float = math.inf) -> None:
         self.program, self.most, self.seconds, self.counts, self.lists = program, most, seconds, Counter(), {}
@@ -175,5 +175,5 @@ def limit_process(seconds: float) -> None:
     resource.setrlimit(resource.RLIMIT_AS, (MEMORY, MEMORY))
     if seconds < math.inf:
         most = math.ceil(seconds)
-        # At the hard limit the process would be killed without SIGXCPU, and only SIGXCPU shows the reason.
+        # SIGXCPU, which shows the reason, comes at the soft limit. At the hard limit the process would only be killed.
         resource.setrlimit(resource.RLIMIT_CPU, (most, most + 1))

@@ -78,7 +78,7 @@ def figures(written: list[Numbered], size: int) -> Iterator[Figure]:
 
 
 def costs_of(written: list[Numbered], is_bytes: bool) -> Counter[int]:
-    """Returns how many bytes or sentences of the output are due to each sentence of the description, without factoring."""
+    """Returns for each sentence of the description how many bytes or sentences of the output come from it, without factoring."""
     costs = Counter()
     for number, sentence in written:
         costs[number] += len(spelled(sentence)) + 1 if is_bytes else 1

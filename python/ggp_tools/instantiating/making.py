@@ -15,16 +15,17 @@ from ggp_tools.gdl import Relations, Rule, all_rules, as_read, cited, lines_of
 # When to factor a game: only if it would otherwise exceed a limit, always, or never.
 WHERE_NEEDED, ALWAYS, NEVER = "where needed", "always", "never"
 FOLDABLE = ("sentences", "atomic sentences", "bytes")
-# A longer game is factored if possible, even if it fits the limits of --large, because each process that loads a game needs memory for all of it.
+# A longer game is factored if possible, even if it is within the limits of --large, because every process that loads it needs memory for all of it.
 LONG = {"sentences": 65536, "bytes": 4194304}
 # A quantity is far above its limit if it is more than this many times the limit.
 FAR = 4
 # The maximum work of factoring a game to within the usual limits, about twenty seconds of processor time. It is counted in steps, so that the
 # result is the same on every machine.
 MOST_WORK = 400_000
-# After this many seconds intermediate results are reported at once.
+# After this many seconds, intermediate results are reported as they arise.
 SOON = 2
-# A description with at most this many instances is first tried unchanged. That form gives the best result, and factoring it takes only seconds.
+# If a description has at most this many instances, its unchanged form is tried first: that form gives the best result, and is factored within
+# seconds.
 FEW_INSTANCES = 1 << 16
 
 
@@ -110,7 +111,7 @@ class Making:
         return self.reported(self.first_within(forms(rules, is_whole, self.is_split)))
 
     def first_within(self, tried: list[Form]) -> Written:
-        """Returns the first form that is within the limits, else the last one that was written."""
+        """Returns the first form that is within the limits, or the last one if none is."""
         done = []
         for form in tried:
             if any(form.rules is rules for rules in done) or (self.best and self.best.is_far_past()):
@@ -179,7 +180,7 @@ class Making:
         return rules
 
     def know(self, words: str) -> None:
-        """Records a fact about a form. If the run has already taken long, this reports the fact at once."""
+        """Records a fact about a form. Reports the fact at once if the run has already taken long."""
         self.known.append(words)
         if time.monotonic() - self.began > SOON:
             report(f"  after {time.monotonic() - self.began:.0f} s: {words}")
@@ -188,7 +189,7 @@ class Making:
         """Returns the reason with the facts that are known about the instances."""
         why = "; ".join([why, *self.known])
         rule = next(filter(limits.is_endless, self.rules), None)
-        # Terms grow only if the sentence has instances: without any, it derives nothing.
+        # Terms can only grow if the sentence has instances.
         if rule and self.grounder and self.grounder.lists_in(rule) > spelled(self.sentences[rule.sentence]).count("("):
             why = f"there are infinitely many instances: {why}; {self.cited(rule.sentence)}, derives ever larger terms from its own"
         # After unrolling, the reason is too many rounds, not too many instances.
@@ -210,7 +211,7 @@ class Making:
         if self.wanted == NEVER or can_stay and is_short or any(name not in FOLDABLE for name, _, _ in plain.past()):
             return plain
         if can_stay:
-            # The result if the time runs out.
+            # This is the result if the time runs out.
             self.best = plain
         self.work = "factoring it"
         usual, short, large = ((limits.MOST, MOST_WORK), (LONG, math.inf), (limits.LARGE, math.inf))

@@ -2,12 +2,12 @@
 
 Such sentences hold if they can be derived. Round 0 has the sentences that can be derived without the others of the cycle, and round n + 1 those that
 can be derived from the sentences of round n. In a cycle of k sentences, every derivable sentence is derived by round k - 1, because a derivation
-needs no sentence twice. The last round is the sentence itself, and sentences that no later round uses are left out. Two kinds of cycles need fewer
-rounds:
+needs no sentence twice. In the last round the sentences keep their names. Sentences that no later round uses are left out. Two kinds of cycles need
+fewer rounds:
 
 - A transitive relation with two arguments that is derived only from two halves, `r a c` from `r a b` and `r b c`. Each round doubles the length of
   paths, so the logarithm of the number of terms is enough.
-- Sentences that each use one other sentence, with the same further conditions whichever it is, for example that there is a stone on the cell. A
+- Sentences that each use one other sentence, with further conditions that do not depend on which one, for example that the cell has a stone. A
 shortest path has at most two sentences of each clique, because it could go directly from any of them to any other. """
 
 from collections.abc import Iterator
@@ -52,8 +52,8 @@ def is_halved(circle: list[Expression], rules_for: RulesFor) -> bool:
 
 
 def has_all_halves(circle: list[Expression], rules_for: RulesFor) -> bool:
-    """Returns whether, for any two sentences of the cycle that are the halves of a third one, the third one is in the cycle, and a rule derives it
-    from them. Otherwise some paths are not made of halves."""
+    """Checks all pairs of sentences of the cycle that are the halves of a third sentence: returns whether this sentence is always in the cycle, and
+    always has a rule that derives it from the two. Otherwise some paths do not consist of halves."""
     begun, bodies, members = grouped(circle, itemgetter(1)), {}, set(circle)
     for half in circle:
         for other in begun.get(half[2], ()):
@@ -83,8 +83,8 @@ def last_round(circle: list[Expression], rules_for: RulesFor) -> int:
 
 
 def steps_of(circle: list[Expression], rules_for: RulesFor) -> dict[Expression, set[Expression]]:
-    """Returns, for each sentence, those from which it can be derived, if each rule uses exactly one sentence of the cycle and the further conditions
-    are the same, or else None."""
+    """Returns for each sentence the sentences from which it can be derived. Returns None unless each rule uses exactly one sentence of the cycle,
+    with the same further conditions."""
     members, steps = set(circle), {}
     for atom in circle:
         conditions = {}

@@ -25,7 +25,7 @@ class Part(NamedTuple):
 
 
 def split(rules: list[Rule]) -> list[Rule]:
-    """Returns the rules after splitting, or the same rules if no part is worth it."""
+    """Returns the rules after splitting all parts that are worth it."""
     circular = Relations(rules).circular
     word = fresh("split", {name for rule in rules for name in atoms(rule.atoms())}, DIGITS)
     splitting = Splitting(word)
@@ -63,7 +63,7 @@ class Splitting:
 
 
 def best_part(rule: Rule) -> Part | None:
-    """Returns the part whose split leaves the fewest variables in one rule, or None if no split leaves fewer."""
+    """Returns the part whose split leaves the fewest variables in the larger rule, or None if no split reduces their number."""
     named = [frozenset(variables(literal.atom)) for literal in rule.body]
     binding = [them if literal.positive and not literal.same else frozenset() for literal, them in zip(rule.body, named)]
     head, count = frozenset(variables(rule.head)), len(rule.body)

@@ -1,5 +1,5 @@
-"""Reads files with records of several games, finds the game of each record, checks it, and writes all records as tables, pages, facts, matches
-of ggp-base, or text like PGN.
+"""Reads files with records of several games, finds the game of each record, checks it, and writes all records as tables, pages, facts, matches of
+ggp-base, or text similar to PGN.
 
     ggp-records --rules RULES check [--explain] PILE ..
     ggp-records --rules RULES sqlite FILE PILE ..
@@ -14,17 +14,17 @@ A PILE is a file with a record on each line, as written by `season` and `run`, o
 call logs are skipped. Options may come anywhere. RULES is a directory with the ground rules of the games, each in a file NAME.kif. A record
 belongs to the game that has its roles and its first state. --large allows large rules.
 
-`check` prints a line for each record: the file, the number of the line, the match, the game and the verdict, separated by tabs. With --explain
-the lines below a record that is not lawful say what was expected and what was found.
+`check` prints a line for each record: the file, the number of the line, the match, the game and the verdict, separated by tabs. With --explain, the
+lines below an unlawful record say what was expected and what was found.
 
-`sqlite` and `csv` write tables of all records. `lawful` is 1 or 0, and `copy_of` has the number of an earlier record with the same bytes. The
-database has the views `counted_players` and `counted_moves`, which have only lawful records, each once.
+`sqlite` and `csv` write tables of all records. `lawful` is 1 or 0, and `copy_of` has the number of an earlier record with the same bytes. The views
+`counted_players` and `counted_moves` of the database have each lawful record once, and no other records.
 
-`ggp-base`, `pgn` and `facts` write only lawful records, and name the others. `ggp-base` writes a file for each match, in the format of ggp-base;
+`ggp-base`, `pgn` and `facts` write only lawful records, and report the others. `ggp-base` writes a file for each match, in the format of ggp-base;
 URL/NAME/ is the address of the game NAME. `pgn` writes the headers and the moves of each match, with an empty line between two matches. `facts`
-writes a line of JSON for each record, with facts that the record itself does not have. LOG, a file or a directory such as `logs` of a
-competition, has the times of messages. The DIR of --descriptions has the descriptions that were grounded, by the same names. TEXT names the
-program that refereed the matches.
+writes a line of JSON for each record, with facts that are not in the record. LOG, a file or a directory such as `logs` of a competition, has the
+times of messages. The DIR of --descriptions has the descriptions that were grounded, with the same file names as the rules. TEXT names the program
+that refereed the matches.
 
 `log` prints logs as text, an event on each line, with at most 200 bytes of each message and each answer.
 
@@ -80,7 +80,7 @@ def row_of(judged: Judged) -> str:
 
 
 def explained(judged: Judged) -> list[str]:
-    """Explains why a line is not a lawful record, if this is known."""
+    """Explains why a line is not a lawful record, if the reason is known."""
     if judged.game and judged.verdict.startswith(NOT_LAWFUL):
         return explanation(judged.verdict.removeprefix(NOT_LAWFUL), judged.game.rules, judged.line.data)
     return json_lines(judged.line.data)[1:] if judged.line.record is None and judged.line.data else []

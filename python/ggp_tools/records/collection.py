@@ -20,7 +20,7 @@ from ggp_tools.streams import opened
 
 # One process of the referee checks about this many bytes of records.
 BATCH = 4 << 20
-# This many batches may wait while others are being checked.
+# The number of batches that may wait while others are being checked.
 WAITING = 2
 SURROGATE = re.compile("[\ud800-\udfff]")
 NO_GAME, NO_RECORD = "no game has its roles", "no record: "
@@ -40,7 +40,7 @@ class KnownGame:
 
 @dataclass(frozen=True, eq=False)
 class Line:
-    """A line of a record file, with its number, counted from 1. `said` is the error of a line that is not a JSON object."""
+    """A line of a record file, with its number, counted from 1. If the line is not a JSON object, `said` is the error."""
 
     file: str
     number: int
@@ -54,7 +54,7 @@ class Line:
 
     @property
     def shaped(self) -> dict | None:
-        """Returns the record, if the line has the shape of one."""
+        """Returns the record, or None if the line does not have the shape of a record."""
         with contextlib.suppress(NoRecord):
             return checked_record(dict(self.record or {}))
         return None
@@ -156,7 +156,7 @@ class Pile:
 
 
 def judged_batch(referee: Referee, games: list[KnownGame], batch: list[Line]) -> list[Judged]:
-    """Returns the verdict on each line. If several games are possible, a line is lawful if it is lawful for one of them."""
+    """Returns the verdict on each line. If a record may belong to several games, it is lawful if it is lawful for one of them."""
     tries = [[] if line.record is None else candidates(line.record, games) for line in batch]
     judged = [Judged(line, None, NO_RECORD + line.said if line.record is None else NO_GAME) for line in batch]
     for turn in range(max(map(len, tries), default=0)):

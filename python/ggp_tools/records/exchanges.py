@@ -1,4 +1,4 @@
-"""The messages of a match, as far as they follow from its record."""
+"""The messages of a match that follow from its record."""
 
 from collections.abc import Iterator
 

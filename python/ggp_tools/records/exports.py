@@ -1,5 +1,5 @@
-"""Writes records as pages with an index, as matches of ggp-base, each a JSON object in its own file, and as text similar to PGN: headers for each
-match, and a line for each turn. Times come from logs. examples/records/README.md describes the formats."""
+"""Writes records in three formats: pages with an index; matches of ggp-base, each a JSON object in its own file; and text similar to PGN, with
+headers for each match and a line for each turn. Times come from logs. examples/records/README.md describes the formats."""
 
 import hashlib
 import json

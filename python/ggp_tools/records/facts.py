@@ -41,7 +41,7 @@ def version_beside(rules: str) -> str | None:
 
 
 def messages_of(exchanges: Exchanges, logged: Beginning) -> list[list[list | None]] | str:
-    """Returns the messages of each role, each as its kind and its milliseconds, or as None if its line is missing. If the log does not belong to the
+    """Returns the messages of each role. Each is its kind and its milliseconds, or None if its line is missing. If the log does not belong to the
     record, returns the reason."""
     messages: list[list[list | None]] = [[None] * exchanges.last(role) for role in range(len(exchanges.players))]
     for role, number, kind, milliseconds, known in logged.messages():
@@ -64,7 +64,7 @@ class Facts:
         self.faults: dict[str, str] = {}
 
     def of_log(self, match_id: str, exchanges: Exchanges) -> tuple[Beginning, list[list[list | None]] | None]:
-        """Returns the match in the logs that belongs to a record, and its messages, or an empty one without messages."""
+        """Returns the match in the logs that belongs to a record, and its messages. If there is none, returns an empty match without messages."""
         beginnings = self.logs.of(match_id)
         if len(beginnings) > 1:
             self.faults[match_id] = TWO_LOGS
@@ -113,7 +113,7 @@ def line_of(found: dict[str, object]) -> bytes:
 
 
 def write_facts(path: pathlib.Path, lawful: Iterable[tuple[int, Judged]], facts: Facts) -> None:
-    """Writes a line for each record. Duplicate ids are known only at the end."""
+    """Writes a line for each record. Waits until the end, because only then all duplicate ids are known."""
     with made_whole(path) as made:
         first = made.with_name("first")
         with open(first, "wb") as file:

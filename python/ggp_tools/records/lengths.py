@@ -6,7 +6,7 @@ from collections.abc import Iterator
 
 from ggp_tools.kif import Expression, expressions, head_of, spelled
 
-# Records of most games cannot be longer, and those that can rarely are.
+# Most games cannot have longer records, and the others rarely do.
 USUAL_RECORD = 16 << 20
 # The longest call log that `replay` accepts.
 LONGEST_ACCOUNT = 256 << 20
@@ -31,7 +31,7 @@ def longest_record(rules: bytes) -> int:
     state = sum(text_length(term) for term in {head[1] for head in heads if head[0] in ("init", "next")})
     move = max((text_length(head[2]) for head in heads if head[0] == "legal"), default=0)
     roles = sum(head[0] == "role" for head in heads)
-    # Each byte of an answer may take two bytes in a string, and an expression may get spaces next to parentheses.
+    # Each byte of an answer may take two bytes in a string, and the canonical text may have more spaces than the answer.
     turn = state + roles * (move + 4 * max(move, USUAL_ANSWER))
     return USUAL_RECORD + (MOST_TURNS + 1) * turn + roles * 4 * BUDGET
 

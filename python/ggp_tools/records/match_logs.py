@@ -50,7 +50,7 @@ class Beginning:
     broken: dict[tuple[int, int], str | None] = field(default_factory=dict)
     # When the last answer of each turn arrived.
     turns: dict[int, int] = field(default_factory=dict, compare=False)
-    # When the last message to each role was sent, and whether the clock was ever set back.
+    # The time of the last message to each role, and whether the clock was ever set back.
     sent: dict[int, int] = field(default_factory=dict, compare=False)
     is_set_back: bool = field(default=False, compare=False)
     is_short: bool = field(default=False, compare=False)
@@ -83,7 +83,7 @@ class Beginning:
             self.turns[message.turn()] = max(message.time + message.ms, self.turns.get(message.turn(), 0))
 
     def is_over(self) -> bool:
-        """Returns whether there may be a record. There is none if the referee ran out of a resource."""
+        """Returns whether there may be a record. A match has no record if the referee ran out of a resource."""
         return self.has_end and not self.is_short
 
     def messages(self) -> Iterator[tuple[int, ...]]:

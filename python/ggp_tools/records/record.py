@@ -18,8 +18,7 @@ COMPLETED, ABORTED = ("stopping", "finished"), ("aborting", "aborted")
 PHASES = ("starting", "playing", *COMPLETED, *ABORTED)
 ERRORS = ("", "TO", "CE", "RT", "IL ?")
 CAUSE = re.compile(r"(asked|toolong|allretired)|(nolegal|nogoal) (0|[1-9][0-9]?)")
-# The referee uses the same format. A reply never ends as a record does, so a line that was cut off, and to which a record was appended, does not
-# match.
+# The referee uses the same format. No reply ends like a record, so a cut line to which a record was appended does not match.
 ACCOUNT_LINE = re.compile(rb"[0-9]+\t(?:open|strict|next|submit|miss|query|abort)(?: [^\t]*)?\t[^\t]*[0-9A-Za-z)]")
 LONGEST_EXPRESSION, MOST_OF_VALUE, MOST_OF_ROLES = 8_192, 80, 1_000
 # The JSON parser is recursive, and more than ROOM calls overflow its stack. Records are nested three lists deep. The recursion limit applies to all

@@ -32,8 +32,8 @@ ONE_RECORD = "Pass one record, or make a page of each with `ggp-records pages`"
 LONGEST_AXIS = 32
 # A page that would have more boards lists terms instead, because a board is about a hundred times as long as its terms.
 MOST_DRAWN = 32_768
-# A single state is drawn from at most this many terms: its own, those of earlier states, and those of the rules. Its boards have at most this many
-# places and names in total. This limits the processor time of a drawing to about half a second. A larger state is listed as text.
+# A state is drawn from at most MOST_READ terms: its own, those of earlier states, and those of the rules. Its boards have at most MOST_PLACES places
+# and names in total. These limits keep the processor time of a drawing below about half a second. A larger state is listed as text.
 MOST_READ, MOST_PLACES = 16_384, 4_096
 # A part of the page of a long match draws states with at most this many terms in total, which takes about as long. On average, these terms have at
 # most this many letters.
@@ -232,7 +232,7 @@ class Named:
 
     @functools.cached_property
     def boards(self) -> list[Board]:
-        """The boards that are known without a state: the boards with places that moves name. Rows are not letters, because (on a b) is a pile."""
+        """The boards whose places are known without a state, because moves name them. Rows are not letters, because (on a b) is a pile."""
         found = boards_of_terms({group: {0: terms} for group, terms in self.ground.items() if terms}, Named((), self.is_hex))
         return [board for board in found if kind_of(board.up) != "letters" and any(places_of(move, board) for move in self.moves)]
 
@@ -259,7 +259,7 @@ def boards_of_terms(terms: dict[Group, dict[int, list[list[str]]]], named: Named
     for group, by_state in terms.items():
         states, seen = list(by_state.values()), members_of(by_state.values())
         words = [word | more for word, more in zip(seen, named.members.get(group, seen))]
-        # Words in rules may not be places, for example words for places off the board.
+        # Some words in rules are not places, for example those for places off the board.
         further = named.ground.get(group, ()) if form_of(states, words) else ()
         words = words if further else seen
         if form := form_of(states, words):
@@ -362,7 +362,7 @@ def states_of_page(
         places = [board_places(board, state) for board in boards]
         ground = ground or [ground_of(board, own) for board, own in zip(boards, places)]
         mover = mover_of(state, roles)
-        # A term that only says whose turn it is becomes the heading of the state.
+        # If a term only says whose turn it is, the heading of the state says that instead.
         shown_above = [] if mover is None else [term for _, term in named_roles(state, roles) if len(words_of(term)) == 2]
         terms = [term for term in state if group_of(words_of(term)) not in on_boards and term not in shown_above]
         known, known_before = set(terms), known
@@ -401,7 +401,7 @@ def turn_of_page(moves: Sequence[str], errors: Sequence[str], mover: int | None,
     """Returns the moves of a turn by role, with the reasons for replaced moves."""
     found = []
     for role, (move, error) in enumerate(zip(moves, errors)):
-        # The only legal move of a role whose turn it is not is one word, such as `noop`.
+        # A role that is not on turn has one legal move, a single word such as `noop`.
         is_idle = mover not in (None, role) and not error and "(" not in move
         found.append({"text": move, "error": error, "why": why(role, error) if error else "", "is_idle": is_idle})
     return found

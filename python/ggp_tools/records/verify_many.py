@@ -190,7 +190,7 @@ def main() -> int:
     parsed, options = arguments(sys.argv[1:])
     hold_closed_streams()
     if signal.getsignal(signal.SIGINT) is signal.default_int_handler:
-        # Ctrl-C ends this command and its processes. Processes that remain end when their input ends.
+        # Ctrl-C ends this command and its processes. Remaining processes end when their input ends.
         signal.signal(signal.SIGINT, signal.SIG_DFL)
     status = 0
     try:

@@ -25,15 +25,14 @@ class Said(NamedTuple):
 
 
 def checks_memory(program):
-    """Returns whether a program is unproved, and checks memory as it runs."""
+    """Returns whether a program is unproved, and therefore checks memory at run time."""
     with open(program, "rb") as file:
         return b"AddressSanitizer" in file.read()
 
 
 @contextlib.contextmanager
 def begun(words, **streams):
-    """Starts a program, and yields its process. The process is killed if it does not end within the time limit, or after an exception, so no read and
-    no wait is endless."""
+    """Starts a program, and yields its process. Kills the process after the time limit or an exception, so that no read and no wait lasts forever."""
     child = subprocess.Popen(words, **streams)
     patience = threading.Timer(PATIENCE, child.kill)
     patience.daemon = True
@@ -75,15 +74,15 @@ def asked_for_seconds(program, words, text=b""):
 
 
 def asked_in_shell(program, words, streams, text=b"", before=""):
-    """The same, with standard streams that the shell sets with these words: for example, `>&-` closes standard output. The shell may run another
-    command before the program."""
+    """The same, with redirections by the shell in `streams`: for example, `>&-` closes standard output. The shell may run another command before the
+    program."""
     call = ["bash", "-c", f'{before} exec "$0" "$@" {streams}', program, *words]
     ran = subprocess.run(call, input=text, capture_output=True, timeout=PATIENCE)
     return Said(ran.returncode, ran.stdout, ran.stderr.decode(errors="replace"))
 
 
 def asked_by_bytes(program, words, count):
-    """The same, with an input of this many bytes, one for each read."""
+    """The same, with an input of which each read returns one byte."""
     ours, theirs = socket.socketpair(socket.AF_UNIX, socket.SOCK_SEQPACKET)
     with begun([program, *words], stdin=theirs, stdout=subprocess.PIPE, stderr=subprocess.PIPE) as child:
         theirs.close()
@@ -108,7 +107,7 @@ def asked_with_closed_pipe(program, words, text=b""):
 
 
 def read_to_close(end, look=lambda said: None):
-    """Returns all output of a terminal until the program has closed its end. A function can inspect the output while it arrives."""
+    """Returns all output of a terminal until the program closes its end. A function can inspect the output as it arrives."""
     said = b""
     try:
         while piece := os.read(end, 4096):
@@ -123,7 +122,7 @@ def read_to_close(end, look=lambda said: None):
 
 def asked_in_terminal(program, words, stream="stderr", text=b"", look=lambda said: None):
     """Returns the exit status, the output of the standard stream that is a terminal, and the output of the other stream. A function can inspect the
-    terminal's output while it arrives."""
+    terminal's output as it arrives."""
     other = "stdout" if stream == "stderr" else "stderr"
     ours, theirs = pty.openpty()
     with tempfile.TemporaryFile() as given, tempfile.TemporaryFile() as kept:
@@ -189,7 +188,7 @@ def reset(connection):
 
 
 def answers(reply, thinking=0):
-    """Returns a function that sends these bytes over each connection, this many seconds after the request was read."""
+    """Returns a function that reads a request, waits, and sends these bytes."""
 
     def serve(connection):
         body_of(connection)
@@ -200,5 +199,5 @@ def answers(reply, thinking=0):
 
 
 def told(answer, thinking=0):
-    """Returns a function that sends this answer over each connection, after this many seconds."""
+    """Returns a function that reads a request, waits, and sends this answer."""
     return answers(f"HTTP/1.0 200 OK\r\nContent-Length: {len(answer)}\r\n\r\n{answer}".encode(), thinking)

@@ -18,7 +18,7 @@ def runnable(word: str) -> str:
 
 
 def words_with_program(about: str) -> argparse.ArgumentParser:
-    """Returns a parser whose first argument is the program. `--help` prints the description of the test."""
+    """Returns a parser for command lines that begin with the program. `--help` prints the description of the test."""
     words = argparse.ArgumentParser(description=about, formatter_class=argparse.RawDescriptionHelpFormatter)
     words.add_argument("program", metavar="PROGRAM", type=runnable)
     return words
@@ -30,7 +30,7 @@ def program_of(about: str) -> str:
 
 
 def tell(name: str, faults: Iterable[str], well: str) -> int:
-    """Prints each error after the test's name; if there is none, prints the sentence `well`. Returns the exit status."""
+    """Prints each error after the test's name, or `well` if there are no errors. Returns the exit status."""
     found = [f"{name}: {fault}" for fault in faults]
     print(*found or [well], sep="\n")
     return int(bool(found))
@@ -42,7 +42,7 @@ def run_test(about: str, faults: Callable[[str], Iterable[str]], well: str) -> N
 
 
 def little_room(size: int, reaction: Callable | signal.Handlers | int | None) -> Callable[[], None]:
-    """Returns a function that limits the size of a process's files. A write past the limit fails, and the signal that it causes has this action."""
+    """Returns a function that limits the size of a process's files. A write past the limit fails, and the process handles the signal in this way."""
 
     def limit() -> None:
         signal.signal(signal.SIGXFSZ, reaction)
@@ -52,8 +52,7 @@ def little_room(size: int, reaction: Callable | signal.Handlers | int | None) ->
 
 
 def closed_port() -> socket.socket:
-    """Returns a socket whose port accepts no connection. The port is reserved as long as the socket is open, but a server of this process may listen
-    there at times."""
+    """Returns a socket whose port accepts no connection. While the socket is open, only a server of this process can listen at the port."""
     endpoint = socket.socket()
     endpoint.setsockopt(socket.SOL_SOCKET, socket.SO_REUSEADDR, 1)
     endpoint.bind(("127.0.0.1", 0))

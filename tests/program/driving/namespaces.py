@@ -60,7 +60,7 @@ def has_stopped(pid: int) -> bool:
 
 @contextlib.contextmanager
 def stopped(namespace: str, seconds: float) -> Iterator[None]:
-    """Stops the programs in a namespace. They continue this many seconds after the block."""
+    """Stops the programs in a namespace. The programs continue this many seconds after the block."""
     inode = os.stat(f"/run/netns/{namespace}").st_ino
     pids = []
     for entry in pathlib.Path("/proc").glob("[0-9]*"):
@@ -79,7 +79,7 @@ def stopped(namespace: str, seconds: float) -> Iterator[None]:
 
 
 class Ann(threading.Thread):
-    """A player in a namespace. It calls a function with its port before it answers the first PLAY."""
+    """A player in a namespace. A player that calls a function with its port before it answers the first PLAY."""
 
     def __init__(self, namespace: str, host: str, before: Callable[[int], object] = lambda _: None) -> None:
         super().__init__(daemon=True)
@@ -105,7 +105,7 @@ class Ended(NamedTuple):
     errors: str
 
     def marks(self) -> list[str]:
-        """Returns the errors of the answers to START, each PLAY and STOP, or none if there is no record."""
+        """Returns the errors of the answers to START, each PLAY and STOP, or an empty list if there is no record."""
         if not self.output:
             return []
         record = json.loads(self.output)
@@ -120,12 +120,12 @@ def played(namespace: str, program: str, address: str, seconds: int, rules: str 
 
 
 def blamed(case: str, ended: Ended, marks: list[str]) -> Iterator[str]:
-    """Yields the errors if there must be a record with these errors of the player."""
+    """Checks that the match has a record in which the player has these errors. Yields what is wrong."""
     if (ended.status, ended.marks()) != (0, marks):
         yield f"{case}: expected a record with {marks}, got status {ended.status}, {ended.marks()}, {ended.errors!r}"
 
 
 def spared(case: str, ended: Ended) -> Iterator[str]:
-    """Yields the errors if this computer is the cause."""
+    """Checks that the match has no record, because this computer is the cause. Yields what is wrong."""
     if (ended.status, ended.output) != (2, "") or "no network" not in ended.errors:
         yield f"{case}: expected no record and a report of no network, got status {ended.status}, {ended.marks()}, {ended.errors!r}"

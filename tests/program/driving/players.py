@@ -9,13 +9,13 @@ ROLES = ("red", "blue")
 
 
 class Seat:
-    """A match of Countdown from the view of one of its players, and the moves that this player sent."""
+    """A match of Countdown from the view of one player, and the moves that this player sent."""
 
     def __init__(self, role, heap):
         self.role, self.heap, self.sent = role, heap, []
 
     def move(self, message, most):
-        """Returns a legal move: the role to move takes at most this many. Red begins."""
+        """Returns a legal move; the role whose turn it is takes at most this many. Red begins."""
         self.heap -= sum(map(int, re.findall(r"\(take (\d+)\)", message)))
         turn = ROLES[len(self.sent) % 2]
         self.sent.append(f"(take {min(self.heap, most)})" if turn == self.role else "noop")
@@ -24,16 +24,16 @@ class Seat:
 
 class Player:
     """A player that thinks for a given time before each answer. It plays any number of matches at a time. A strict player plays only one, and answers
-    START with `busy` until this match is over. Its answers may be padded with this many spaces."""
+    START with `busy` until this match is over. `padding` is the number of spaces that it adds to each answer."""
 
     def __init__(self, name, heap, think=0.0, is_strict=False, padding=0):
         self.name, self.heap, self.think, self.is_strict, self.padding = name, heap, think, is_strict, padding
         self.chance = random.Random(name)
         # Its roles in open matches, its last role in each match that is over, and the ids of all matches that began.
         self.seats, self.over, self.begun = {}, {}, []
-        # How many complete messages it has received, and how many connections are open.
+        # The number of complete messages that it has received, and of open connections.
         self.messages = self.serving = 0
-        # The bytes on its connections before a request or after it.
+        # The bytes that its connections received before or after a request.
         self.strays = []
         self.port = None
 
@@ -102,11 +102,11 @@ class Hall(threading.Thread):
         await asyncio.gather(*(server.serve_forever() for server in servers))
 
     def messages(self):
-        """Returns how many messages the players got."""
+        """Returns the number of messages that the players received."""
         return sum(player.messages for player in self.players)
 
     def settle(self):
-        """Returns after the players have read and answered all messages of a program that has ended."""
+        """Waits until the players have read and answered all messages of a program that has ended."""
         asyncio.run_coroutine_threadsafe(self.settled(), self.loop).result()
 
     async def settled(self):

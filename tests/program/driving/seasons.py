@@ -14,13 +14,13 @@ PATIENCE = 1800
 
 
 def schedule(pairs, clocks="600 600", name="m"):
-    """Returns the text of a schedule with a match of each of these pairs, the red player first, and the ids of the matches."""
+    """Returns a schedule with a match for each of these pairs, the red player first, and the ids of the matches."""
     ids = [f"{name}{number}" for number in range(len(pairs))]
     return "".join(f"{match} {clocks} {red.address()} {blue.address()}\n" for match, (red, blue) in zip(ids, pairs)), ids
 
 
 def paired(players, matches):
-    """Returns the two players of each of this many matches. Neighbours in the list play each other, and the pairs take turns."""
+    """Returns the two players of each match. Neighbours in the list play each other, and the pairs take turns."""
     pairs = list(zip(players[::2], players[1::2]))
     return [pairs[number % len(pairs)] for number in range(matches)]
 
@@ -38,7 +38,7 @@ def start(program, words, plan, records, **more):
 
 
 def all_said(child):
-    """Returns the output to a program's pipes until the program ends. A program that does not end is killed."""
+    """Returns what a program writes to its pipes until it ends. A program that does not end is killed."""
     try:
         return child.communicate(timeout=PATIENCE)
     except subprocess.TimeoutExpired:
@@ -47,7 +47,7 @@ def all_said(child):
 
 
 def ended(child):
-    """Returns the exit status of a program, and the output on standard error if that goes to a pipe. A program that does not end is killed."""
+    """Returns the exit status of a program, and its standard error if that is a pipe. A program that does not end is killed."""
     told = all_said(child)[1]
     return child.returncode, told
 
@@ -72,7 +72,7 @@ def cut_off(folder):
 
 
 def events_in(log, event="message"):
-    """Returns the objects of this event in a log, among other lines."""
+    """Returns the objects of this event in a log that may also have other lines."""
     objects = [json.loads(line) for line in log.splitlines() if line.startswith('{"event":')]
     return [found for found in objects if found["event"] == event]
 
@@ -88,7 +88,8 @@ def errors_of(record):
 
 
 def faults_of_records(program, game, text, ids, players):
-    """Yields the errors in the records of a season: each match must have one lawful record, without errors, with the moves that its players sent."""
+    """Yields the errors in the records of a season: each match must have one lawful record with the moves that its players sent, and without
+    errors."""
     try:
         records = records_in(whole_lines(text)[0])
     except ValueError as fault:

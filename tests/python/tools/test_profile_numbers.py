@@ -22,7 +22,7 @@ class Limits(unittest.TestCase):
         for file, name, words, user, behind in LIMITS:
             said = re.findall(words, profile)
             self.assertEqual(re.findall(rf"\bconst {name}: usize = ([\d_]+);", text_of(file)), [number.replace(",", "_") for number in said], name)
-            # The constant is used in one place there, as the limit itself.
+            # That file uses the constant once, as the limit itself.
             self.assertEqual(len(said), 1, name)
             code = "".join(line for line in text_of(user).splitlines(True) if not line.startswith("use "))
             self.assertEqual(re.findall(rf"\b{name}\b *(?!: usize)(.*)", code), [behind], name)

@@ -74,7 +74,7 @@ def test_the_libraries_are_measured(tmp_path: pathlib.Path) -> None:
 
 def test_totals_are_of_all_crates_and_of_the_longest_chain() -> None:
     assert totals_of({"low": 5, "wide": 7, "high": 11, "beside": 20}, KNOWN) == {"in_all": 43, "longest_chain": 23}
-    # The crate of a program has no library, so it has no size. A chain passes through this crate to the crates that the program uses.
+    # The crate of a program has no library, and therefore no size. A chain of crates still passes through it.
     assert totals_of({"low": 5, "high": 11}, KNOWN) == {"in_all": 16, "longest_chain": 16}
 
 

@@ -1,4 +1,4 @@
-"""Shows a script next to its replies, with fake programs."""
+"""`examples/side-by-side`, with fake programs."""
 import os
 import subprocess
 import tempfile
@@ -8,7 +8,7 @@ TOP = os.path.dirname(os.path.dirname(os.path.dirname(os.path.dirname(os.path.re
 
 
 def shown(script, does):
-    """Returns the exit status and the output, if the program does this with a script."""
+    """Returns the exit status and the output of `side-by-side` with a fake program that runs these shell commands."""
     with tempfile.NamedTemporaryFile("w") as file:
         file.write(script)
         file.flush()

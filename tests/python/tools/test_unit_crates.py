@@ -1,4 +1,4 @@
-"""The tests that remain in a crate of tests/unit/ if some are selected by name."""
+"""Selecting unit tests by name: the tests that remain in each crate of tests/unit."""
 import os
 import tempfile
 import unittest
