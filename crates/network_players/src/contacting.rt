@@ -204,7 +204,7 @@ fn connect_fault(error: &io::Error, may_be_own: bool, refusal: Option<Shortage>)
 
 /// The error of an address to which no connection was made. If the player or a router on the way can cause the error too,
 /// this probes what this computer lacks. If this computer has lost the family of the address, each address of that family
-/// gives the error for a lack of ports. A computer that can send to an address outside does not lack a network.
+/// gives the error for a lack of ports or of a network. A computer that can send to an address outside does not lack a network.
 fn fault_of<N: Routes>(net: &N, address: &SocketAddr, error: &io::Error) -> ContactFault {
     let may_be_own = is_of_either(error.raw_os_error());
     let refusal = if may_be_own {
@@ -213,9 +213,8 @@ fn fault_of<N: Routes>(net: &N, address: &SocketAddr, error: &io::Error) -> Cont
         None
     };
     match connect_fault(error, may_be_own, refusal) {
-        ContactFault::Shortage(Shortage::Ports) if lacks_route(net, address) => {
-            ContactFault::NoConnection
-        }
+        ContactFault::Shortage(Shortage::Ports | Shortage::Network) if lacks_route(net, address) =>
+            { ContactFault::NoConnection }
         ContactFault::Shortage(Shortage::Network) if probe_outside(net, address).is_ok() => {
             ContactFault::NoConnection
         }

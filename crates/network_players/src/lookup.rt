@@ -63,9 +63,13 @@ impl HostQuery {
         self.host == host.host
     }
 
-    /// Whether the other lookup began so long before this one that it may never end.
-    pub(crate) fn is_long_after(&self, other: &HostQuery) -> bool {
-        self.begun - other.begun > Duration::from_secs(LONG_SECONDS)
+    /// Whether this lookup began so long before another one that it may never end.
+    pub(crate) fn is_long_before(&self, other: &HostQuery) -> bool {
+        self.is_old(other.begun)
+    }
+
+    fn is_old(&self, now: Instant) -> bool {
+        now - self.begun > Duration::from_secs(LONG_SECONDS)
     }
 
     /// The result of the lookup, or `None` if it has not ended yet.
@@ -244,9 +248,19 @@ impl Lookup {
         let left = deadline.after(net, Duration::ZERO)?;
         let asked = longest_begin(net, player, left);
         let lack = lack_of_network(net);
+        let is_old = match &self.query {
+            Some(query) => query.is_old(deadline.seen),
+            None => false,
+        };
         let query = match self.query.take() {
-            Some(query) => query,
-            None => begun(net, alloc, player, deadline.seen)?,
+            Some(query) if !is_old => query,
+            old => match begun(net, alloc, player, deadline.seen) {
+                Ok(query) => query,
+                Err(fault) => {
+                    self.query = old;
+                    return Err(fault);
+                }
+            },
         };
         let found = match wait_for(net, alloc, player, &query, asked, deadline) {
             Ok(found) => found,

@@ -25,7 +25,7 @@ pub fn lookup_descriptors(descriptors: u64) -> u64
     EACH * (descriptors / (4 * EACH)).clamp(1, MOST)
 }
 
-/// The lookups that have not ended: at most one for each host, and one more for each lookup of it that seems to have no end.
+/// The lookups that have not ended: at most one for each host, and a second one if the first seems to have no end.
 #[derive(Drop)]
 pub struct PendingLookups {
     queries: Vec<Arc<HostQuery>>,
@@ -45,7 +45,7 @@ impl PendingLookups {
     }
 
     /// A lookup of the same host that has not ended, if there is one. Otherwise this adds the query, which the caller must
-    /// start. A lookup that began long ago is joined only if no other may begin. The error is what the referee lacks for another lookup.
+    /// start. If a lookup began long ago, a second one begins, unless no other may begin. The error is what the referee lacks for another lookup.
     pub(crate) fn join(
         &mut self,
         query: &Arc<HostQuery>,
@@ -54,12 +54,16 @@ impl PendingLookups {
     {
         self.queries.retain(|other| other.found().is_none());
         let is_full = self.queries.len() >= self.most;
+        let mut joins_any = is_full;
         for other in &self.queries {
-            if other.is_of(query) && (is_full || !query.is_long_after(other)) {
-                return match Arc::try_clone(other) {
-                    Ok(other) => Ok(Some(other)),
-                    Err(_) => Err(Shortage::Memory),
-                };
+            if other.is_of(query) {
+                if joins_any || !other.is_long_before(query) {
+                    return match Arc::try_clone(other) {
+                        Ok(other) => Ok(Some(other)),
+                        Err(_) => Err(Shortage::Memory),
+                    };
+                }
+                joins_any = true;
             }
         }
         if is_full {
