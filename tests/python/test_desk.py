@@ -2,12 +2,13 @@
 
 import asyncio
 import pathlib
+import signal
 import subprocess
 import sys
 
 import pytest
 from ggp_tools.desk import Desk, DeskEnded, Hold, Over, Owe, Refused, Status
-from support import GAMES, TOP, program
+from support import GAMES, TOP, program, script
 
 REFEREE = TOP / "examples/desk/referee.py"
 COUNTDOWN = "--countdown=3"
@@ -113,6 +114,20 @@ def test_matches_at_once_in_asyncio() -> None:
 
     records = asyncio.run(play())
     assert len(records) == 5 and all('"phase":"finished"' in record for record in records)
+
+
+def test_a_call_that_is_interrupted_ends_the_desk(tmp_path: pathlib.Path) -> None:
+    # This desk interrupts the first call, and would reply to it only after the second one.
+    desk_of_one_reply = script(tmp_path / "desk", "#!/bin/sh\nread row\nkill -INT $PPID\nread row\necho late\n")
+    before = signal.signal(signal.SIGINT, signal.default_int_handler)
+    try:
+        with pytest.raises(DeskEnded, match="status -9"), Desk(program=str(desk_of_one_reply)) as desk:
+            with pytest.raises(KeyboardInterrupt):
+                desk.query("m1")
+            with pytest.raises(DeskEnded, match="`query m2`"):
+                desk.query("m2")
+    finally:
+        signal.signal(signal.SIGINT, before)
 
 
 @pytest.mark.parametrize("game", ["tictactoe", "roshambo"])
