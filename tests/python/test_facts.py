@@ -85,6 +85,11 @@ class Logs(unittest.TestCase):
         self.assertEqual(self.times(line_of(Host("m1", "me@there")).decode() + LOG), [(*times, "me@there")])
         self.assertEqual(self.times("".join(LINES[:-1])), [(times[0], "2026-11-28T06:00:05.000Z", None)])
 
+    def test_a_match_ends_with_the_latest_of_its_last_answers(self):
+        without_time = line_of(End("m1", None, "STOP")).decode()
+        for lines in ([*MIDDLE, LAST, END], [*MIDDLE, LAST, without_time], [*MIDDLE[:-1], LAST, MIDDLE[-1]]):
+            self.assertEqual(self.times("".join(lines)), [(None, "2026-11-28T06:00:05.001Z", None)])
+
     def test_lines_of_another_form_are_counted(self):
         self.assertEqual([logs_of(text).others for text in (LOG, "", f"{LOG}ggp_manager: m1 started\n{{}}\n", "12:00 (START m1)\n")], [0, 0, 2, 1])
 
@@ -108,7 +113,7 @@ class Logs(unittest.TestCase):
 
         for sent in ((), ((0, 5), (0, 6)), ((0, 5), (1, 4)), ((0, 6), (1, 5), (0, 6), (1, 6)), ((0, 5), (0, None), (0, 5))):
             self.assertFalse(was_set_back(*sent), sent)
-        for sent in (((0, 5), (0, 4)), ((0, 5), (1, 5), (1, 6), (0, 4)), ((0, 5), (0, None), (0, 4))):
+        for sent in (((0, 5), (0, 4)), ((0, 5), (0, 4), (0, 6)), ((0, 5), (1, 5), (1, 6), (0, 4)), ((0, 5), (0, None), (0, 4))):
             self.assertTrue(was_set_back(*sent), sent)
 
     def test_the_messages_of_each_role(self):
