@@ -2,13 +2,12 @@
 
 import asyncio
 import pathlib
-import signal
 import subprocess
 import sys
 
 import pytest
 from ggp_tools.desk import Desk, DeskEnded, Hold, Over, Owe, Refused, Status
-from support import GAMES, TOP, program, script
+from support import GAMES, TOP, program
 
 REFEREE = TOP / "examples/desk/referee.py"
 COUNTDOWN = "--countdown=3"
@@ -29,6 +28,21 @@ def play_countdown(desk: Desk, match_id: str) -> list[object]:
             if isinstance(due, Owe):
                 desk.submit(match_id, role, due.round, "(take 1)" if due.round % 2 != role else "noop")
     return dues
+
+
+class Interrupted(str):
+    """A call that is interrupted, as by Ctrl-C."""
+
+    def encode(self, *_: str) -> bytes:
+        raise KeyboardInterrupt
+
+
+def assert_an_interrupt_ends(desk: Desk) -> None:
+    """Interrupts a call. The next one must not get its reply."""
+    with pytest.raises(KeyboardInterrupt):
+        desk.reply(Interrupted("query m1"))
+    with pytest.raises(DeskEnded, match="`query m2`"):
+        desk.query("m2")
 
 
 @pytest.mark.parametrize("script", sorted(GAMES.glob("*.script")), ids=lambda path: path.stem)
@@ -116,18 +130,9 @@ def test_matches_at_once_in_asyncio() -> None:
     assert len(records) == 5 and all('"phase":"finished"' in record for record in records)
 
 
-def test_a_call_that_is_interrupted_ends_the_desk(tmp_path: pathlib.Path) -> None:
-    # This desk interrupts the first call, and would reply to it only after the second one.
-    desk_of_one_reply = script(tmp_path / "desk", "#!/bin/sh\nread row\nkill -INT $PPID\nread row\necho late\n")
-    before = signal.signal(signal.SIGINT, signal.default_int_handler)
-    try:
-        with pytest.raises(DeskEnded, match="status -9"), Desk(program=str(desk_of_one_reply)) as desk:
-            with pytest.raises(KeyboardInterrupt):
-                desk.query("m1")
-            with pytest.raises(DeskEnded, match="`query m2`"):
-                desk.query("m2")
-    finally:
-        signal.signal(signal.SIGINT, before)
+def test_a_call_that_is_interrupted_ends_the_desk() -> None:
+    with pytest.raises(DeskEnded, match="status -9"), countdown_desk() as desk:
+        assert_an_interrupt_ends(desk)
 
 
 @pytest.mark.parametrize("game", ["tictactoe", "roshambo"])
