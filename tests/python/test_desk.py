@@ -1,6 +1,7 @@
 """`desk --interactive`, its client `ggp_tools.desk`, and examples/desk/referee.py."""
 
 import asyncio
+import json
 import pathlib
 import subprocess
 import sys
@@ -74,6 +75,13 @@ def test_a_match() -> None:
         assert dues == [Owe(0, "start"), *plays, Owe(4, "stop", "((take 1) noop)"), Over()]
         assert desk.query("m1") == Status("finished", 4, 3, 0)
     assert [record.count('"goalValues":[100,0]') for record in desk.records] == [1]
+
+
+def test_the_clocks_of_a_match() -> None:
+    with countdown_desk() as desk:
+        desk.open("m1", ["ann", "bob"])
+        desk.open("m2", ["ann", "bob"], start=3, play=4, strikes=5)
+    assert [[json.loads(record)[key] for key in ("startClock", "playClock", "strikes")] for record in desk.records] == [[10, 10, 0], [3, 4, 5]]
 
 
 def test_calls_that_are_refused() -> None:
