@@ -94,7 +94,7 @@ def test_calls_that_are_refused() -> None:
             (lambda: desk.submit("m1", 0, 1, "noop"), "stale", 0),
             (lambda: desk.miss("m1", 2, 0), "norole", None),
         ):
-            with pytest.raises(Refused) as refused:
+            with pytest.raises(Refused, match=f"`: {reason}$" if round_ is None else f"`: {reason} {round_}$") as refused:
                 call()
             assert (refused.value.reason, refused.value.round) == (reason, round_)
         desk.miss("m1", 0, 0, is_broken=True)
