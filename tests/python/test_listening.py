@@ -102,6 +102,7 @@ def test_clients_share_a_desk(tmp_path: pathlib.Path, address: str) -> None:
             first.abort("m1")
         with Desk.connect(service.address) as third:
             assert third.query("m1").phase == "aborting"
+        assert third.transport.socket.fileno() == -1
     lines = [line for line, _, _ in service.calls()]
     assert lines[0] == lines[3] == lines[4] != lines[1] == lines[2]
 
