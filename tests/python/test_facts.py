@@ -133,7 +133,7 @@ class Logs(unittest.TestCase):
         self.assertEqual(len(logs_of(BEGUN, "".join(LINES[:3])).of("m1")), 2)
 
     def test_a_match_in_which_the_referee_was_short_of_something_has_no_record(self):
-        short = "".join([*LINES[:5], message(0, 3, "(PLAY m1 ((take 1) noop))", Missed("lost (out of ports)"), 9, 3_000), *LINES[6:]])
+        short = "".join([*LINES[:5], message(0, 3, "(PLAY m1 ((take 1) noop))", Missed("lost (out of ports)"), 10, 3_000), *LINES[6:]])
         (found,) = logs_of(short + LOG, short).of("m1")
         self.assertFalse(found.is_short)
 
