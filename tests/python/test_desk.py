@@ -7,7 +7,7 @@ import subprocess
 import sys
 
 import pytest
-from ggp_tools.desk import MOST_NUMBER, Desk, DeskEnded, Hold, Over, Owe, Refused, Status
+from ggp_tools.desk import Desk, DeskEnded, Hold, Over, Owe, Refused, Status
 from support import GAMES, TOP, program
 
 REFEREE = TOP / "examples/desk/referee.py"
@@ -93,7 +93,7 @@ def test_calls_that_are_refused() -> None:
             (lambda: desk.next("m2", 0), "nomatch", None),
             (lambda: desk.submit("m1", 0, 1, "noop"), "stale", 0),
             (lambda: desk.miss("m1", 2, 0), "norole", None),
-            (lambda: desk.miss("m1", MOST_NUMBER, 0), "norole", None),
+            (lambda: desk.miss("m1", 1_000_000_000, 0), "norole", None),
         ):
             with pytest.raises(Refused, match=f"`: {reason}$" if round_ is None else f"`: {reason} {round_}$") as refused:
                 call()
@@ -113,7 +113,7 @@ def test_values_that_are_not_words() -> None:
             lambda: desk.query("m1 0"),
             lambda: desk.query(""),
             lambda: desk.next("m1", -1),
-            lambda: desk.next("m1", MOST_NUMBER + 1),
+            lambda: desk.next("m1", 1_000_000_001),
             lambda: desk.submit("m1", 0, 0, "ready\nabort m1"),
             lambda: desk.reply("no call"),
         ):

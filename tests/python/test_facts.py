@@ -137,6 +137,10 @@ class Logs(unittest.TestCase):
         (found,) = logs_of(short + LOG, short).of("m1")
         self.assertFalse(found.is_short)
 
+    def test_a_match_is_over_for_all_once_it_is_for_one_role(self):
+        ((_, found),) = read(BEGUN + message(0, 2, "(ABORT m1)", "done", 4, 2_400) + MIDDLE[5])
+        self.assertTrue(found.is_over())
+
     def test_two_that_are_over_are_several_and_a_copy_is_not(self):
         other = LOG.replace('"ms":505', '"ms":506')
         for logs in ((LOG, other), (LOG + other,), (LOG, other, LOG.replace('"ms":505', '"ms":507'))):
