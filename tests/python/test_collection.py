@@ -151,6 +151,9 @@ class Piles(InFolder):
         with made_whole(self.folder / "output") as made:
             self.assertEqual(made.parent.parent, self.folder)
             made.write_bytes(b"made")
+        # Another process may have written it since.
+        with self.assertRaises(FileExistsError), made_whole(self.folder / "output") as made:
+            made.write_bytes(b"made again")
         self.assertEqual([(path.name, path.read_bytes()) for path in self.folder.iterdir()], [("output", b"made")])
 
 
