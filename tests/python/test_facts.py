@@ -212,6 +212,7 @@ class Lines(unittest.TestCase):
         others = (
             ("bob", "cid"), ('"role":1', '"role":2'), ("(take 1) noop", "(take 2) noop"), ("(STOP m1 (noop (take 2)))", "(ABORT m1)"),
             ('"number":4', '"number":999999999'), ('"number":4,"kind":"STOP","round":null', '"number":4,"kind":"PLAY","round":2'), ("PLAY m1 NIL", "PLAY m2 NIL"),
+            ('"number":2,"kind":"PLAY","round":0', '"number":2,"kind":"START","round":null'),
         )
         for old, new in others:
             self.assertIn(old, LOG)
