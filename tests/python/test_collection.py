@@ -17,6 +17,7 @@ from unittest import mock
 
 from ggp_tools.records.collection import Pile, candidates, judged_batch, judged_lines, known_games, line_of
 from ggp_tools.records.record import ACCOUNT_LINE, LONGEST_RECORD, numbered_lines
+from ggp_tools.records.tables import made_whole
 from ggp_tools.referee import BadRules
 from support import GAMES, TOP, InFolder, program
 
@@ -144,6 +145,16 @@ class Piles(InFolder):
             for jobs in (1, 3):
                 found = list(judged_lines(Says(), games, Pile([file]), jobs))
                 self.assertEqual([(judged.line.number, judged.is_lawful) for judged in found], [(at + 1, at % 2 == 0) for at in range(40)])
+
+    def test_an_output_is_made_in_its_own_directory(self):
+        # A file cannot be renamed to another file system, which a directory for temporary files may be.
+        with made_whole(self.folder / "output") as made:
+            self.assertEqual(made.parent.parent, self.folder)
+            made.write_bytes(b"made")
+        # Another process may have written it since.
+        with self.assertRaises(FileExistsError), made_whole(self.folder / "output") as made:
+            made.write_bytes(b"made again")
+        self.assertEqual([(path.name, path.read_bytes()) for path in self.folder.iterdir()], [("output", b"made")])
 
 
 class WithPile(InFolder):

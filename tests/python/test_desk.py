@@ -1,6 +1,7 @@
 """`desk --interactive`, its client `ggp_tools.desk`, and examples/desk/referee.py."""
 
 import asyncio
+import json
 import pathlib
 import subprocess
 import sys
@@ -28,6 +29,21 @@ def play_countdown(desk: Desk, match_id: str) -> list[object]:
             if isinstance(due, Owe):
                 desk.submit(match_id, role, due.round, "(take 1)" if due.round % 2 != role else "noop")
     return dues
+
+
+class Interrupted(str):
+    """A call that is interrupted, as by Ctrl-C."""
+
+    def encode(self, *_: str) -> bytes:
+        raise KeyboardInterrupt
+
+
+def assert_an_interrupt_ends(desk: Desk) -> None:
+    """Interrupts a call. The next one must not get its reply."""
+    with pytest.raises(KeyboardInterrupt):
+        desk.reply(Interrupted("query m1"))
+    with pytest.raises(DeskEnded, match="`query m2`"):
+        desk.query("m2")
 
 
 @pytest.mark.parametrize("script", sorted(GAMES.glob("*.script")), ids=lambda path: path.stem)
@@ -61,6 +77,13 @@ def test_a_match() -> None:
     assert [record.count('"goalValues":[100,0]') for record in desk.records] == [1]
 
 
+def test_the_clocks_of_a_match() -> None:
+    with countdown_desk() as desk:
+        desk.open("m1", ["ann", "bob"])
+        desk.open("m2", ["ann", "bob"], start=3, play=4, strikes=5)
+    assert [[json.loads(record)[key] for key in ("startClock", "playClock", "strikes")] for record in desk.records] == [[10, 10, 0], [3, 4, 5]]
+
+
 def test_calls_that_are_refused() -> None:
     with countdown_desk() as desk:
         desk.open("m1", ["ann", "bob"], strikes=1)
@@ -70,8 +93,9 @@ def test_calls_that_are_refused() -> None:
             (lambda: desk.next("m2", 0), "nomatch", None),
             (lambda: desk.submit("m1", 0, 1, "noop"), "stale", 0),
             (lambda: desk.miss("m1", 2, 0), "norole", None),
+            (lambda: desk.miss("m1", 1_000_000_000, 0), "norole", None),
         ):
-            with pytest.raises(Refused) as refused:
+            with pytest.raises(Refused, match=f"`: {reason}$" if round_ is None else f"`: {reason} {round_}$") as refused:
                 call()
             assert (refused.value.reason, refused.value.round) == (reason, round_)
         desk.miss("m1", 0, 0, is_broken=True)
@@ -113,6 +137,11 @@ def test_matches_at_once_in_asyncio() -> None:
 
     records = asyncio.run(play())
     assert len(records) == 5 and all('"phase":"finished"' in record for record in records)
+
+
+def test_a_call_that_is_interrupted_ends_the_desk() -> None:
+    with pytest.raises(DeskEnded, match="status -9"), countdown_desk() as desk:
+        assert_an_interrupt_ends(desk)
 
 
 @pytest.mark.parametrize("game", ["tictactoe", "roshambo"])

@@ -101,6 +101,8 @@ class Faults(unittest.TestCase):
         ])
         early = {**places, ("errors",): [*errors[:3], ["RT", ""], ["RT", ""]]}
         self.assertEqual(said_of("retired 3 0", early, rules)[0], "Turn 4, role red: the role is not retired: it had errors in up to 1 turn in a row, and `strikes` is 2.")
+        since = {**places, ("strikes",): 3, ("errors",): [["TO", ""], ["CE", ""], ["", ""], ["TO", ""], ["RT", ""]]}
+        self.assertEqual(said_of("retired 4 0", since, rules)[0], "Turn 5, role red: the role is not retired: it had errors in up to 2 turns in a row, and `strikes` is 3.")
         both = {**places, ("errors",): [["TO", "TO"], ["CE", "CE"], *errors[2:]]}
         self.assertEqual(said_of("end", both, rules), ["The record goes on after the end: before turn 3 all roles are retired.", "expected: 2 turns", "found: 5 turns"])
 

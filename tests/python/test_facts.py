@@ -85,6 +85,11 @@ class Logs(unittest.TestCase):
         self.assertEqual(self.times(line_of(Host("m1", "me@there")).decode() + LOG), [(*times, "me@there")])
         self.assertEqual(self.times("".join(LINES[:-1])), [(times[0], "2026-11-28T06:00:05.000Z", None)])
 
+    def test_a_match_ends_with_the_latest_of_its_last_answers(self):
+        without_time = line_of(End("m1", None, "STOP")).decode()
+        for lines in ([*MIDDLE, LAST, END], [*MIDDLE, LAST, without_time], [*MIDDLE[:-1], LAST, MIDDLE[-1]]):
+            self.assertEqual(self.times("".join(lines)), [(None, "2026-11-28T06:00:05.001Z", None)])
+
     def test_lines_of_another_form_are_counted(self):
         self.assertEqual([logs_of(text).others for text in (LOG, "", f"{LOG}ggp_manager: m1 started\n{{}}\n", "12:00 (START m1)\n")], [0, 0, 2, 1])
 
@@ -108,7 +113,7 @@ class Logs(unittest.TestCase):
 
         for sent in ((), ((0, 5), (0, 6)), ((0, 5), (1, 4)), ((0, 6), (1, 5), (0, 6), (1, 6)), ((0, 5), (0, None), (0, 5))):
             self.assertFalse(was_set_back(*sent), sent)
-        for sent in (((0, 5), (0, 4)), ((0, 5), (1, 5), (1, 6), (0, 4)), ((0, 5), (0, None), (0, 4))):
+        for sent in (((0, 5), (0, 4)), ((0, 5), (0, 4), (0, 6)), ((0, 5), (1, 5), (1, 6), (0, 4)), ((0, 5), (0, None), (0, 4))):
             self.assertTrue(was_set_back(*sent), sent)
 
     def test_the_messages_of_each_role(self):
@@ -128,9 +133,13 @@ class Logs(unittest.TestCase):
         self.assertEqual(len(logs_of(BEGUN, "".join(LINES[:3])).of("m1")), 2)
 
     def test_a_match_in_which_the_referee_was_short_of_something_has_no_record(self):
-        short = "".join([*LINES[:5], message(0, 3, "(PLAY m1 ((take 1) noop))", Missed("lost (out of ports)"), 9, 3_000), *LINES[6:]])
+        short = "".join([*LINES[:5], message(0, 3, "(PLAY m1 ((take 1) noop))", Missed("lost (out of ports)"), 10, 3_000), *LINES[6:]])
         (found,) = logs_of(short + LOG, short).of("m1")
         self.assertFalse(found.is_short)
+
+    def test_a_match_is_over_for_all_once_it_is_for_one_role(self):
+        ((_, found),) = read(BEGUN + message(0, 2, "(ABORT m1)", "done", 4, 2_400) + MIDDLE[5])
+        self.assertTrue(found.is_over())
 
     def test_two_that_are_over_are_several_and_a_copy_is_not(self):
         other = LOG.replace('"ms":505', '"ms":506')
@@ -203,6 +212,7 @@ class Lines(unittest.TestCase):
         others = (
             ("bob", "cid"), ('"role":1', '"role":2'), ("(take 1) noop", "(take 2) noop"), ("(STOP m1 (noop (take 2)))", "(ABORT m1)"),
             ('"number":4', '"number":999999999'), ('"number":4,"kind":"STOP","round":null', '"number":4,"kind":"PLAY","round":2'), ("PLAY m1 NIL", "PLAY m2 NIL"),
+            ('"number":2,"kind":"PLAY","round":0', '"number":2,"kind":"START","round":null'),
         )
         for old, new in others:
             self.assertIn(old, LOG)

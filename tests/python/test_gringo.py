@@ -73,7 +73,7 @@ class Read(unittest.TestCase):
         self.grounder = Grounder(program_of("(n a) (<= (n ?x) (m ?x)) (m c) (<= (legal r ?x) (n ?x)) (<= (next ?x) (true ?x))"), 3)
 
     def test_instances_and_what_is_counted(self):
-        lines = ['p0("a").\n', 'p0(("f",("g","c"))).\n', 'p1("c").\n', 'i0("a").\n', "i1.\n", 'i0("a",("f","b")).\n']
+        lines = ['p0(("f",("g","c"))).\n', 'p0("a").\n', 'p1("c").\n', 'i0("a").\n', "i1.\n", 'i0("a",("f","b")).\n']
         self.assertEqual(list(self.grounder.read(lines)), [(0, ["a"]), (1, []), (0, ["a", ("f", "b")])])
         self.assertEqual(self.grounder.counts, {"p0": 2, "p1": 1, "i0": 2, "i1": 1})
         self.assertEqual(self.grounder.lists, {"p0": 3, "p1": 1, "i0": 2, "i1": 0})

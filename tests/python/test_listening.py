@@ -17,7 +17,7 @@ from urllib.parse import urlencode
 import pytest
 from ggp_tools.desk import Connection, Desk, DeskEnded, Hold, Refused
 from support import GAMES, TOP, program
-from test_desk import COUNTDOWN, play_countdown
+from test_desk import COUNTDOWN, assert_an_interrupt_ends, play_countdown
 
 EXAMPLES = TOP / "examples/desk"
 TICTACTOE = GAMES / "tictactoe.kif"
@@ -102,6 +102,7 @@ def test_clients_share_a_desk(tmp_path: pathlib.Path, address: str) -> None:
             first.abort("m1")
         with Desk.connect(service.address) as third:
             assert third.query("m1").phase == "aborting"
+        assert third.transport.socket.fileno() == -1
     lines = [line for line, _, _ in service.calls()]
     assert lines[0] == lines[3] == lines[4] != lines[1] == lines[2]
 
@@ -148,6 +149,15 @@ def test_a_connection_waits_for_a_line(tmp_path: pathlib.Path) -> None:
             first_connection.close()
             assert waiting.result().phase == "aborting"
     assert [call.split()[0] for _, call, _ in service.calls()] == [b"open", b"abort", b"query"]
+
+
+def test_a_call_that_is_interrupted_ends_its_connection(tmp_path: pathlib.Path) -> None:
+    with serving(tmp_path) as service:
+        with Desk.connect(service.address) as desk:
+            assert_an_interrupt_ends(desk)
+        with Desk.connect(service.address) as desk, pytest.raises(Refused):
+            desk.query("m3")
+    assert [call for _, call, _ in service.calls()] == [b"query m3"]
 
 
 def test_a_row_without_an_end_is_not_a_call(tmp_path: pathlib.Path) -> None:
