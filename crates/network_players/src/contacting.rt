@@ -4,7 +4,7 @@ ghost use Rattle.std.specs.Duration.{as_nanos};
 ghost use Rattle.std.specs.IoError.{error_kind, raw_os_error};
 ghost use Rattle.network_players.specs.Contacts.{address_fault, after_try, connect_fault, fault_at_end, fault_at_refusal, fault_so_far, is_cut_by_stop, is_of_network, longest_pause, outcome_of};
 
-use crate::deadline::{Deadline, LATE, TimedStream, doubled, is_gone, try_limit};
+use crate::deadline::{Deadline, LATE, TimedStream, doubled, first_limit, is_gone, try_limit};
 use crate::lookup::{Lookup, Resolves};
 use crate::routes::{Routes, lacks_route, outside};
 use crate::shortage::{is_of_either, shortage_of};
@@ -300,9 +300,16 @@ fn connect_to<N: Routes + Clock>(
     limit: Duration,
     deadline: &mut Deadline,
 ) -> Result<N::Stream, ContactFault> {
+    let (left, had_stalled) = (deadline.left, deadline.has_stalled);
+    deadline.has_stalled = false;
     let tried = TcpStream::connect_timeout(net, address, limit);
     // The next step finds out whether time is left.
     let _ = deadline.after(net, limit);
+    if deadline.has_stalled {
+        // A stop costs no more than in a first try.
+        deadline.left = deadline.left.max(left.saturating_sub(first_limit(left)));
+    }
+    deadline.has_stalled = deadline.has_stalled || had_stalled;
     match tried {
         Ok(stream) if deadline.has_stalled && is_gone(net, &stream) => {
             Err(ContactFault::NoConnection)

@@ -48,7 +48,7 @@ fn charged(asked: Duration, passed: Duration) -> Duration
 
 /// The time limit of the first try to connect, and of each try to write: a quarter of the time that is left, and at most a second. Such a
 /// step mostly ends at once, so a program that is stopped during it loses no more of the message's time than this.
-fn first_limit(left: Duration) -> Duration
+pub(crate) fn first_limit(left: Duration) -> Duration
     ensures { as_nanos result ≡ first_limit (as_nanos left) }
 {
     (left / 4)
