@@ -7,7 +7,7 @@ const AWAKE: u64 = 0;
 
 const ASLEEP: u64 = 1;
 
-/// The bell of a desk over rings. A line rings the bell after it posts a call, and when the line is done. The desk's thread
+/// The bell of a desk over rings. A line rings the bell after it posts a call, and when it will post no more. The desk's thread
 /// sleeps on the bell while no call comes, and signals through it that the desk makes no further calls.
 ///
 /// No guarantee of a desk or a line depends on the bell.
@@ -64,8 +64,8 @@ impl Bell {
         self.sleep.store(ASLEEP, Ordering::SeqCst);
     }
 
-    /// Sleeps until the bell is rung, but at most for `longest`. Returns at once if the bell was rung since `prepare_sleep`,
-    /// and may wake up for no reason.
+    /// Sleeps until the bell is rung, but at most for `longest`. Returns at once if the bell was rung since `prepare_sleep`.
+    /// May also wake up without a ring.
     pub(crate) fn sleep<R: Wait>(&self, rt: &R, longest: Duration) {
         self.sleep.park_timeout(rt, ASLEEP as u32, longest);
         self.stay_awake();

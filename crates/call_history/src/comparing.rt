@@ -1,4 +1,4 @@
-//! Whether a desk over rings has served all calls of the lines that come back to it.
+//! Checks that a desk over rings has served all calls of the returned lines.
 ghost use Rattle.std.specs.Prelude.{◌≡◌, ◌<◌, ℕ, slice_index_or, length, MatchBool, MatchOption, min};
 ghost use Rattle.std.specs.List.{All};
 ghost use Rattle.call_history.specs.Parts.{part};
@@ -12,7 +12,7 @@ use crate::object::Object;
 use crate::port::Port;
 use crate::ring_line::LineEnd;
 
-/// Whether no call of a line is waiting. Both ends of each ring are now in one thread, so they can be compared. Only the
+/// Whether no call of a line is waiting. This thread now has both ends of each ring, so it can compare them. Only the
 /// contract uses the journal, for its history.
 fn compare<O: Object>(
     journal: &Journal<O>,

@@ -1,4 +1,4 @@
-//! Lines that come back to their desk: their numbers, and the calls that they made.
+//! Lines that are returned to their desk: their numbers, and the calls that they made.
 //!
 //! The tables `found`, `awaited` and `made_by_line` have one place for each number, and never grow.
 ghost use Rattle.std.specs.Prelude.{◌≡◌, ◌<◌, ◌^◌, IfSome, IfNone, ℕ, true, false, length, map, replicate, slice_index, slice_index_or, sum, Contains};
@@ -35,7 +35,7 @@ fn note_numbers<N: Numbered>(lines: &[N], found: &mut [bool])
     }
 }
 
-/// The lowest number with a place in `found` that none of these lines has. If there is no such number, all of `found` is
+/// The lowest number that has a place in `found` and that no line has. If there is no such number, all of `found` is
 /// set to true.
 pub(crate) fn lowest_missing<N: Numbered>(lines: &[N], found: &mut [bool]) -> Option<u32>
     requires { length found.old < 2 ^ 32 }

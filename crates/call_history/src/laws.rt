@@ -1,9 +1,10 @@
 //! Laws of the definitions of this crate. Each is a function that does nothing.
 //!
-//! The definitions read a history from its front. Two laws say what these definitions give for one more entry at its end,
-//! and so, by induction, for each entry. One law says that the constants are the limits of the definitions.
+//! The definitions read a history from its front. Two laws give the values of these definitions for a history with one
+//! more entry at its end. By induction, they determine the values for each history. One law says that the constants are
+//! the limits of the definitions.
 //!
-//! The laws on rings say that the lines of a desk stay its lines while the desk serves and the lines post and take. So a
+//! The laws on rings say that serving, posting and taking do not change which lines belong to a desk. So a
 //! caller that keeps the lines can close the desk with their ends. These laws have no arguments, because they relate values
 //! from before and after such calls: name the type of the desk's object when you call them.
 ghost use Rattle.std.specs.Prelude.{◌≡◌, ◌↔◌, [], ◌∷◌, ◌++◌};
@@ -46,7 +47,7 @@ pub fn constants_are_the_limits()
     ensures room { MAX_ROOM ≡ max_room }
 {}
 
-/// The lines of a desk over rings stay its lines while the desk serves and while the lines post and take. The same holds for
+/// Serving, posting and taking do not change which lines belong to a desk over rings. The same holds for
 /// their ends.
 pub fn lines_stay<O: Object>()
     ensures lines { LinesStay O.Call O.Reply }
@@ -65,7 +66,7 @@ pub fn desks_stay<O: Object>()
     ensures through { PortsStaySame O.Call O.Reply }
 {}
 
-/// If a number is among the numbers of some ends, one of these ends has it.
+/// If a list of ends contains a number, one of these ends has this number.
 pub fn numbers_are_of_ends<O: Object>()
     ensures { NumbersAreOfEnds O.Call O.Reply }
 {}

@@ -30,7 +30,7 @@ struct Locked<O: Object, L: Ledger> {
 }
 
 impl<O: Object, L: Ledger> Locked<O, L> {
-    /// The whole critical section: one call of the journal, counted in the total and in the line's share.
+    /// The critical section: makes one call on the journal, and counts it in the total and in the line's share.
     fn call(
         &mut self,
         line: u32,
@@ -118,8 +118,8 @@ pub struct Unclosed<O: Object, L: Ledger> {
 /// Opens a desk with an empty history of at most `most` entries, and returns the desk and its lines. If an allocation is
 /// refused, returns the object.
 ///
-/// The blank has one part for each line. Call this function from a function that is generic over `L`, and call that
-/// function with `Brand`, as `sync::ledger` of std explains.
+/// The blank has one part for each line. Call this from a function that is generic over `L`, and call that function
+/// with `Brand`; see `sync::ledger` of std.
 pub fn open_lock<O: Object, L: Ledger>(
     alloc: Global,
     blank: Blank,

@@ -4,14 +4,14 @@ use std::sync::Wait;
 use std::time::Duration;
 use std::{hint, thread};
 
-/// How many rests in a row only spin. Together they take about as long as a line needs for its next call.
+/// The number of rests in a row that only spin. Together they take about as long as a line needs for its next call.
 const SPINS: u32 = 64;
 
 /// How many further rests yield the processor to another thread, before the thread sleeps.
 const YIELDS: u32 = 8;
 
-/// Counts the rests in a row of the thread that serves a desk. The thread finds a call that comes soon without delay, and
-/// takes no processor time during a long wait.
+/// Counts the rests in a row of the thread that serves a desk. A call that comes soon is found without delay, and a long
+/// wait takes no processor time.
 #[derive(Drop)]
 pub struct Pause<'a> {
     bell: &'a Bell,
@@ -33,8 +33,8 @@ impl<'a> Pause<'a> {
         }
     }
 
-    /// Rests once, after the thread found no call. Before a sleep the thread checks once more after `prepare_sleep`, so it
-    /// misses no ring.
+    /// Rests once, after the thread found no call. Before a sleep, the thread checks once more after `prepare_sleep`, so
+    /// that it does not miss a ring.
     pub fn rest<R: Wait>(&mut self, rt: &R) {
         if self.spins > 0 {
             self.spins -= 1;

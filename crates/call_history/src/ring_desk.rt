@@ -123,7 +123,7 @@ impl<O: Object> RingDesk<O> {
             (λ served. Gains self.old.journal.history self.new.journal.history (length self.old.ports) served)
             (λ fault. Gains self.old.journal.history self.new.journal.history fault.line fault.served) }
 
-        // The round skips no line before the one at which it stops, and takes no call from a line without a free slot.
+        // The round visits all lines before the one at which it stops. It takes no call from a line without a free slot.
         ensures visits { MatchResult result
             (λ _. Visits self.old.journal.history self.new.journal.history self.old.ports self.new.ports (length self.old.ports))
             (λ fault. Visits self.old.journal.history self.new.journal.history self.old.ports self.new.ports fault.line) }
@@ -136,7 +136,7 @@ impl<O: Object> RingDesk<O> {
         serve_round(&mut self.journal, &mut self.ports)
     }
 
-    /// Serves rounds until one serves nothing. Each round before the last one makes the history longer, so this ends.
+    /// Serves rounds until one serves nothing. This terminates, because each round before the last one makes the history longer.
     pub fn serve_all(&mut self) -> Result<(), DeskFault>
         ensures lines { SamePorts self.old.ports self.new.ports }
         ensures most { self.new.journal.most ≡ self.old.journal.most }

@@ -52,7 +52,7 @@ pub fn open_rings<O: Object>(
     }
 }
 
-/// Takes the last line of a new desk. Its number is the number of lines that are left.
+/// Takes the last line of a new desk. The number of the returned line is the number of lines that remain.
 pub fn last_line<O: Object>(desk: &RingDesk<O>, lines: &mut Vec<RingLine<O>>) -> RingLine<O>
     requires some { 0 < length lines.old.items }
     requires within { length lines.old.items ≤ length desk.now.ports }

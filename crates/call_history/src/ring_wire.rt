@@ -77,9 +77,9 @@ impl<O: Object> Wire for RingWire<O> {
 
     ghost same_line = { λ v w. SameLine v.line w.line };
 
-    /// Posts the call and takes one reply. This is the reply to the call if the line had taken as many replies as it had
-    /// posted calls. The wire stalls if no reply comes within its tries, or if the desk has stopped. A stalled wire does
-    /// nothing more, but a call that it has posted stays posted.
+    /// Posts the call and takes one reply. The returned reply is the reply to this call if the line had taken a reply to
+    /// each earlier call. The wire stalls if no reply comes within its tries, or if the desk has stopped. A stalled wire
+    /// does nothing more, but a call that it has posted stays posted.
     fn ask(&mut self, call: O::Call) -> Result<O::Reply, AskFault>
         ensures line { SameLine self.old.line self.new.line }
         ensures tries { self.new.tries ≡ self.old.tries }
@@ -121,7 +121,7 @@ fn ring(bell: &Option<Arc<Bell>>) {
     }
 }
 
-/// Whether the bell signals that the desk makes no further calls.
+/// Whether the desk has signalled that it makes no further calls.
 fn has_stopped(bell: &Option<Arc<Bell>>) -> bool
     ensures { IfNone bell.now (IsFalse result) }
 {
@@ -178,7 +178,7 @@ fn take_within<O: Object>(
 {
     for tried in 0..*left {
         *left -= 1;
-        // The desk sends all replies before it stops, so the last try comes after the stop.
+        // The desk sends all replies before it stops, so one more try after the stop finds any reply.
         let is_last = has_stopped(bell);
         if let Some(reply) = line.take() {
             return Some(reply);

@@ -10,7 +10,7 @@ use crate::object::Object;
 use crate::port::Port;
 use crate::ring_desk::DeskFault;
 
-/// Serves at most one call of a line: the kept call, or else the next one that has come. Skips a line that has no free slot
+/// Serves at most one call of a line: the kept call or, if there is none, the next call that has arrived. Skips a line that has no free slot
 /// for a reply.
 fn serve<O: Object>(
     journal: &mut Journal<O>,

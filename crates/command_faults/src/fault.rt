@@ -56,7 +56,7 @@ pub enum Fault {
     UnlawfulRecords(u64),
     /// The line of the call log with this number has no valid call.
     NoEntry(u64),
-    /// The call in the line with this number gets another reply, or the line is written in another way. The output has
+    /// The call in the line with this number gets a different reply, or the line is not in canonical form. The output has
     /// the correct line.
     Differs(u64),
     /// This many lines of a script are bad. The whole output was written.
@@ -77,7 +77,7 @@ impl Fault {
         }
     }
 
-    /// The message, or its beginning if it depends on the error's value.
+    /// The message, or its constant beginning if the message depends on the error's value.
     fn words(self) -> &'static str {
         match self {
             Fault::WrongUse => "wrong use",

@@ -20,7 +20,7 @@ use whole_streams::{InputFault, Pieces, read_to_end};
 pub struct MaxBytes {
     /// The limit with the options that are given.
     pub bytes: u32,
-    /// The limit with `--large`, if that option is not given and would accept more.
+    /// The limit with `--large`, if the option is not given and would raise the limit.
     pub with_large: Option<u32>,
 }
 
@@ -177,7 +177,7 @@ fn opening_fault(named: NamedFile, error: io::Error) -> Fault
     }
 }
 
-/// Opens the file at this path. `named` says what the command line names it for.
+/// Opens the file at this path. `named` is the use for which the command line names the file.
 pub fn opened<F: Files>(files: &F, named: NamedFile, path: &str) -> Result<Counted<F::File>, Fault>
     ensures fault { IfErr result (IsFileFault named) }
     ensures not_size { IfErr result IsNotOfSize }

@@ -350,7 +350,7 @@ pub struct CommandForm {
     name: &'static str,
     about: &'static str,
     arguments: &'static [Argument],
-    /// The end of the help: how the arguments go together, an example, and the exit statuses.
+    /// The end of the help: how to combine the arguments, an example, and the exit statuses.
     notes: &'static str,
 }
 

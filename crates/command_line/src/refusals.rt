@@ -8,7 +8,7 @@ use std::alloc::{AllocError, Global};
 /// The commands that always print an explanation before the error, even if standard error is not a terminal.
 const OWN_COMMANDS: [&str; 4] = ["season", "check", "replay", "abort"];
 
-/// The options that have the same effect.
+/// The options that also make the program print an explanation.
 const OWN_OPTIONS: [&str; 7] = [
     "--rules-file",
     "--large",

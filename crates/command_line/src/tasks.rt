@@ -46,7 +46,7 @@ pub struct ServicePlan<'a> {
     pub records: Option<&'a str>,
 }
 
-/// The player to ask, and whether to print its answer as JSON.
+/// The player that gets INFO, and whether to print its answer as JSON.
 #[derive(Clone, Copy)]
 pub struct InfoPlan<'a> {
     pub player: PlayerAddress<'a>,

@@ -60,11 +60,11 @@ pub enum Reply {
     Status(Status),
     /// To `Abort`.
     Aborting,
-    /// To any call that the desk refuses. Such a call changes no match.
+    /// The reply to any call that the desk refuses. A refused call does not change a match.
     Refused(Refusal),
 }
 
-/// Why the desk refuses a call: the first of these that holds.
+/// Why the desk refuses a call: the first of these reasons that applies.
 #[derive(Clone, Copy, Debug, PartialEq, Eq)]
 pub enum Refusal {
     /// The id is not 1 to 64 bytes of ASCII letters, digits, `-`, `_` and `.`.

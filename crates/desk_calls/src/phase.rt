@@ -23,8 +23,8 @@ pub enum Phase {
 #[derive(Clone, Copy, PartialEq, Eq)]
 pub struct Status {
     pub phase: Phase,
-    /// 0 while the match is starting; after that, the number of recorded turns plus one. A requested abort adds one more,
-    /// or makes the round 1 if some role has not answered START.
+    /// 0 while the match is starting; after that, the number of recorded turns plus one. A requested abort adds one; if
+    /// some role has not answered START, it makes the round 1.
     pub round: u64,
     /// The number of recorded turns.
     pub turns: u64,

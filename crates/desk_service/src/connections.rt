@@ -16,7 +16,7 @@ const REST: u64 = 50;
 /// The open connections, and whether the service has ended.
 #[derive(Drop)]
 struct Open {
-    /// A second handle of the connection of each line that has one.
+    /// For each line with a connection, a second handle of the connection.
     streams: Vec<Option<TcpStream>>,
     /// The number of connections.
     count: u32,
@@ -107,8 +107,8 @@ impl<'a> Connections<'a> {
         self.left.notify_all();
     }
 
-    /// Ends the service: accepts no more connections, and lets no open one receive more. Waits until all have ended, but no longer than
-    /// `GRACE` seconds, and then cuts them. Returns whether it cut one.
+    /// Ends the service: accepts no more connections, and reads no more from the open ones. Waits up to `GRACE` seconds until all have
+    /// ended, and then cuts the others. Returns whether it cut a connection.
     pub(crate) fn end<R: Clock + Wait>(&self, rt: &R) -> bool {
         let mut open = self.open.lock(rt);
         open.has_ended = true;

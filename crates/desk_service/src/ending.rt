@@ -8,7 +8,7 @@ use std::alloc::AllocError;
 /// How a conversation ended.
 #[derive(Clone, Copy)]
 pub enum Ending {
-    /// The client sends nothing more, and got all its replies.
+    /// The client has stopped sending, and has received all its replies.
     Left,
     /// A read or a write failed.
     Broken,

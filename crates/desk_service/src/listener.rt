@@ -32,7 +32,7 @@ pub enum Listener {
 }
 
 impl Listener {
-    /// The row that tells clients where to connect. If the port was 0, it has the port that the system chose.
+    /// The row that tells clients where to connect. If the requested port was 0, the row has the port that the system chose.
     pub fn row(&self, alloc: Global, address: &str) -> Result<String, AllocError> {
         if let Listener::Tcp(listener) = self {
             if let Ok(chosen) = listener.local_addr() {
@@ -47,7 +47,7 @@ impl Listener {
         match self {
             Listener::Tcp(listener) => {
                 let (stream, _) = listener.accept()?;
-                // Without this, the system delays small replies.
+                // Without this option, the system delays small replies.
                 let _ = stream.set_nodelay(true);
                 Ok(stream)
             }
@@ -58,8 +58,8 @@ impl Listener {
         }
     }
 
-    /// A second handle of the socket, with which it can be shut down. The standard library can only shut down streams, but the system
-    /// makes no difference.
+    /// A second handle of the socket, with which it can be shut down. The standard library can only shut down streams, but for the
+    /// system a listening socket is the same.
     pub(crate) fn handle(&self) -> io::Result<TcpStream> {
         let socket = match self {
             Listener::Tcp(listener) => OwnedFd::from(listener.try_clone()?),

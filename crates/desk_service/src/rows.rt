@@ -20,7 +20,7 @@ use whole_streams::laws::lines_are_taken;
 /// The largest number of bytes of a row, as in a script.
 const MAX_ROW: usize = 1_048_576;
 
-/// The desk of a service, and what is needed to make calls on it.
+/// The desk of a service, and the means to make calls on it.
 #[derive(Drop)]
 pub struct Serving<'a, O: Object, L: Ledger, R> {
     pub rt: &'a R,

@@ -23,7 +23,7 @@ use std::thread;
 use std::thread::{Threads, join};
 use std::time::{Clock, Duration};
 
-/// How long a client that the service has refused may be silent, in seconds, before its connection is closed.
+/// After the service has refused a client, its connection is closed when it has been silent for this many seconds.
 const PATIENCE: u64 = 1;
 
 /// The report about connections that were cut.
@@ -74,7 +74,7 @@ where
         let ending = converse(serving, line, &mut reader, &mut writer);
         if ending.is_stopped() {
             let _ = around.rt.eprintln(ending.words());
-            // If the connection were closed while the client sends, the system could drop the last row.
+            // Closing the connection while the client sends could make the system drop the last row.
             let _ = stream.set_read_timeout(Some(Duration::from_secs(PATIENCE)));
             let _ = stream.shutdown(Shutdown::Write);
             drop_rest(around.rt, &mut reader);

@@ -5,7 +5,7 @@ ghost use Rattle.desk_text.specs.Escapes.{stands_from, hex_digit, escape, escape
 use game_core::Text;
 use std::alloc::AllocError;
 
-/// Whether a byte is written without an escape. `least` is the lowest byte for which this is possible.
+/// Whether a byte is written without an escape. `least` is the lowest byte that is not escaped.
 fn stands(least: u8, byte: u8) -> bool
     ensures { result ≡ stands_from least byte }
 {

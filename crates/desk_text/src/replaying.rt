@@ -54,7 +54,7 @@ fn entry_bytes(alloc: Global, line: u32, call: &Call, reply: &Reply) -> Result<V
     Ok(text)
 }
 
-/// The correct line for this call, with the reply that the object gives now.
+/// The correct line for this call, with the object's reply at this point.
 fn right_text<O: Object<Call = Call, Reply = Reply>>(
     alloc: Global,
     object: &O,
@@ -126,8 +126,8 @@ fn replay_lines<O: Object<Call = Call, Reply = Reply>>(
     Ok(calls)
 }
 
-/// Replays a call log on a new desk with these games. It accepts exactly the logs of legal histories: each line must be exactly the
-/// one that `push_history` writes for the call and the reply that the call gets now.
+/// Replays a call log on a new desk with these games. It accepts exactly the logs of legal histories: each line must be the one
+/// that `push_history` writes for the call and its reply at this point.
 pub fn replay<G: Game + Drop>(
     alloc: Global,
     games: Vec<G>,

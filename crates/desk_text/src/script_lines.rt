@@ -65,7 +65,7 @@ fn number<'a>(
     }
 }
 
-/// Whether the first word is `broken` rather than `silent`, and the words after it.
+/// Whether the first word is `broken` (and not `silent`), and the words after it.
 fn reason(rest: Option<&[u8]>) -> Result<(bool, Option<&[u8]>), LineFault>
     ensures { option_map (λ r. (r.0, words_behind (option_copied r.1))) (result_ok result) ≡ first_reason (words_behind (option_copied rest.entry)) }
 {

@@ -98,8 +98,8 @@ impl Sentences {
         self.text.get(start..end).unwrap_or(b"")
     }
 
-    /// The number of the sentence that causes this error. If the first sentences have the error, more sentences do not remove it, so this is
-    /// a binary search.
+    /// The number of the sentence that causes this error. This is a binary search: if the first sentences have the error, adding more
+    /// sentences does not remove it.
     fn first_with(&self, alloc: Global, limits: Limits, fault: LoadFault) -> usize {
         let mut without: usize = 0;
         let mut with = self.starts.len();

@@ -1,6 +1,6 @@
 //! Explains errors in an input, as lines for standard error before the error itself.
 //!
-//! Each function appends lines to a text. No proof depends on them. Functions that allocate take the allocator first.
+//! Each function appends lines to a text. No proof depends on these explanations. Functions that allocate take the allocator first.
 #![tactic(auto)]
 
 mod bad_entries;

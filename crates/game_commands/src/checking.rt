@@ -106,7 +106,7 @@ fn check_line<G: Game, W: Write>(
     Ok(verdict)
 }
 
-/// How many lines were not lawful, and how many were skipped.
+/// The numbers of lines that were not lawful and of lines that were skipped.
 #[derive(Clone, Copy)]
 pub struct LineCounts {
     /// The number of lines that are neither lawful records nor lines of call logs.

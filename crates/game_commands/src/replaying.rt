@@ -21,7 +21,7 @@ use whole_streams::{LineBuffer, NextLine, write_all};
 /// The largest size of a call log in bytes: 256 MiB. The end of each line counts as two bytes.
 const MAX_ACCOUNT: usize = 268_435_456;
 
-/// The number of matches that are not over. If the last calls are missing from a call log, there is at least one.
+/// The number of matches that are not over. There is at least one if the last calls are missing from the call log.
 fn open_matches<G: Game>(manager: &Manager<G>) -> usize
     ensures { result ≡ open_matches G.rules manager.now }
 {

@@ -36,7 +36,7 @@ pub fn rules_text<'a, F: Files>(
     }
 }
 
-/// The game that a text describes within these limits. If the text does not describe one, it is stored as evidence.
+/// The game that a text describes within these limits. A text that does not describe a game is stored as evidence.
 pub fn game_of(
     alloc: Global,
     limits: Limits,

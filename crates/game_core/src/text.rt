@@ -12,7 +12,7 @@ use std::cmp::Ordering;
 use std::hash::{Hash, Hasher};
 use std::marker::Model;
 
-/// A text: any bytes, mostly ASCII. Contracts see its bytes; comparison and hashing use them too.
+/// A text: any bytes, mostly ASCII. Contracts see the bytes of the text, which comparison and hashing use too.
 #[derive(Drop)]
 pub struct Text {
     pub bytes: Vec<u8>,

@@ -45,8 +45,8 @@ pub struct Reports<E> {
 }
 
 /// Runs the command with these arguments, and returns the exit status. If it fails, it writes an explanation and the error to `errors`.
-/// Failed writes to `errors` are ignored. On a terminal `errors` also shows the progress of matches. `--why` has an effect only if the
-/// terminals of `around` say that the command line has it.
+/// Failed writes to `errors` are ignored. On a terminal `errors` also shows the progress of matches. `--why` takes effect only if the
+/// terminals of `around` say that it is on the command line.
 pub fn command<H, S, R: Read, W: Write, E: Write + Send + Drop>(
     around: &Surroundings<'_, H, S>,
     words: &[String],

@@ -21,7 +21,7 @@ pub enum Subject<'a> {
     Schedule(&'a [u8]),
     /// Why the desk refuses to open the match of a run or of a check, in a game with this many roles.
     Opening(&'a MatchTask<'a>, usize),
-    /// Why this match id is invalid, if it is.
+    /// Why this match id is invalid, or `None` if it is valid.
     Id(&'a str),
 }
 

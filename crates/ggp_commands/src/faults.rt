@@ -51,7 +51,7 @@ pub fn match_fault(fault: MatchFault) -> Fault
     }
 }
 
-/// The program's error if a season is not played to its end.
+/// The program's error for a season that was not played to its end.
 pub fn season_fault(fault: SeasonFault) -> Fault
     ensures { result ≡ season_fault fault }
 {
@@ -101,7 +101,7 @@ pub fn command_end(performed: Result<(), CommandFault>) -> Result<(), Fault>
     }
 }
 
-/// The result of a task, given its number of matches without a record, or of bad answers in its check.
+/// The result of a season, from its number of matches without a record, or of a check, from its number of bad answers.
 pub fn task_end(task: &MatchTask<'_>, held: Result<u64, Fault>) -> Result<(), Fault>
     ensures all { OnOk result (held ≡ Ok 0) }
     ensures some { OnErr result (held ≢ Ok 0) }

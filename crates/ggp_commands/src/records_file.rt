@@ -43,7 +43,7 @@ pub fn tell_state<E: Write>(errors: &mut E, path: &str, state: RecordsState) {
     }
 }
 
-/// Reports that the end of a file was moved to another file: the record in this line with its call log, or an incomplete last line.
+/// Reports that the end of a file was moved to another file: the record in this line and its call log, or an incomplete last line.
 fn tell_torn<E: Write>(errors: &mut E, path: &str, first: Option<u64>, torn: &str) {
     let (path, torn) = (Printable(path), Printable(torn));
     let mut pieces = Pieces { stream: errors };

@@ -100,7 +100,7 @@ fn push_season<'a>(used: &mut Vec<Used<'a>>, plan: &SeasonPlan<'a>) -> Result<()
     push(used, Role::Records, plan.records)
 }
 
-/// The files and streams that a command uses. Standard input is listed only for `replay` and `season`.
+/// The files and streams that a command uses. The list contains standard input only for `replay` and `season`.
 fn used_by<'a>(alloc: Global, task: &Task<'a>) -> Result<Vec<Used<'a>>, AllocError> {
     let mut used = Vec::new(alloc);
     push(&mut used, Role::Output, Some(OUTPUT))?;

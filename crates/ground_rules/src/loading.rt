@@ -56,8 +56,8 @@ fn have_few_moves(roles: &[Role]) -> bool
     true
 }
 
-/// Whether the head depends on something that it may not depend on. `on_moves` says whether it depends on moves, and
-/// `on_given` whether it depends on the state or on moves.
+/// Whether the head has a forbidden dependence. `on_moves` says whether the head depends on moves, and `on_given`
+/// whether it depends on the state or on moves.
 fn is_barred(head: &Derived, on_moves: bool, on_given: bool) -> bool
     ensures { result ≡ barred_by head.now on_moves on_given }
 {
@@ -127,7 +127,7 @@ fn ranked_rules(
     }
 }
 
-/// Whether some head depends on something that it may not depend on. The row says which heads depend on moves.
+/// Whether some head has a forbidden dependence. The row says which heads depend on moves.
 fn has_barred_head(
     alloc: Global,
     names: &Names,

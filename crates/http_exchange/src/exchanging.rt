@@ -17,9 +17,9 @@ use std::io::{Read, Write};
 
 /// Sends a player a request with this body, and returns the body of the reply.
 ///
-/// The player's name is written into the head as it is, so it must not contain a line end. Bytes after the body of the
-/// reply are ignored, but may have been read. The stream is not flushed. A long part that the body shares with others is
-/// written without a copy. If there is no body, `received` says how far the exchange got.
+/// The player's name goes into the head unchanged, so it must not contain a line end. Bytes after the body of the
+/// reply are ignored, but may have been read. The stream is not flushed. A long part that the body shares with other
+/// bodies is written without being copied. If there is no body, `received` says how far the exchange got.
 pub fn exchange_shared<S: Read + Write>(
     alloc: Global,
     stream: &mut Counted<S>,

@@ -30,7 +30,7 @@ pub struct Frame {
 pub enum HeadPart {
     /// The version is neither 1.0 nor 1.1, or a reply does not begin with a version and a space.
     Version,
-    /// After the version there is no status of three digits, or there is a control byte after the status.
+    /// The version is not followed by a status of three digits, or the status is followed by a control byte.
     Status,
     /// A request's method is not `POST`, or its target is not text.
     Method,

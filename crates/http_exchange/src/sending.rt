@@ -10,7 +10,7 @@ use game_core::{Counted, MAX_STREAM_CALLS};
 use shared_text::SharedText;
 use std::io::{ErrorKind, Write};
 
-/// Calls `write` once. Returns how many bytes it took, or 0 if it was interrupted.
+/// Calls `write` once. Returns the number of bytes that the stream took, or 0 if the write was interrupted.
 fn write_once<S: Write>(stream: &mut Counted<S>, rest: &[u8]) -> Result<usize, WireFault>
     requires { 0 < length rest.now }
     ensures bound { IfOk result (λ taken. taken ≤ length rest.now) }

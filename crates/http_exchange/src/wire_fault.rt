@@ -12,9 +12,9 @@ use std::io::ErrorKind;
 /// are lost, and bytes that were written stay written.
 #[derive(Clone, Copy, PartialEq, Eq)]
 pub enum WireFault {
-    /// A write failed and was not only interrupted, or it took none of the bytes that it was given.
+    /// A write failed for a reason other than an interruption, or took none of the bytes that it was given.
     WriteFault,
-    /// A read failed and was not only interrupted.
+    /// A read failed for a reason other than an interruption.
     ReadFault(ErrorKind),
     /// No further bytes can complete a head, the head has more than 64 fields, or a request's method is not `POST`.
     BadHead,
@@ -23,12 +23,12 @@ pub enum WireFault {
     /// The fields do not have one length: there is a `Transfer-Encoding`, a length is not a number, two lengths are
     /// different, or a request has no length.
     BadLength,
-    /// The head has more than 16,384 bytes. Or the body has more than 65,536 bytes in a reply or 2,097,152 in a request,
-    /// as the head says or as the bytes came.
+    /// The head has more than 16,384 bytes. Or, according to the head or the bytes that arrived, the body has more than
+    /// 65,536 bytes in a reply or 2,097,152 in a request.
     TooLong,
     /// The stream ended inside the head, or before the body was complete.
     CutShort,
-    /// 200,000 reads did not bring enough bytes, or 200,000 writes did not write all.
+    /// 200,000 reads did not give enough bytes, or 200,000 writes did not write all bytes.
     TooManyReads,
     /// Out of memory.
     Memory,

@@ -7,7 +7,7 @@ use thiserror::Error;
 
 /// Why a text is refused. Offsets count the bytes of the text from 0.
 ///
-/// `TooLong` comes before all other errors. Of the others, the reader reports the one with the lowest offset. `Unclosed` and
+/// `TooLong` comes before all other errors. Of all other errors, the reader reports the one with the lowest offset. `Unclosed` and
 /// `Nothing` are found at the end of the text, so they are reported only if there is no other error.
 #[derive(Clone, Copy, Debug, PartialEq, Eq, Error)]
 pub enum KifFault {
@@ -17,7 +17,7 @@ pub enum KifFault {
     /// The parenthesis at this offset closes a list, but none is open.
     #[error("the parenthesis at {0} closes no list")]
     Unopened(usize),
-    /// The parenthesis at this offset would open a list inside 64 others.
+    /// The parenthesis at this offset would open a list inside 64 nested lists.
     #[error("the list at {0} is nested too deeply")]
     TooDeep(usize),
     /// No parenthesis closes the list that was opened at this offset. If several lists are open at the end of the text, this

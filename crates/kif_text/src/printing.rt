@@ -12,7 +12,7 @@ use std::alloc::{AllocError, Global};
 /// Prints the canonical text: one space between the members of a list, and no space inside its parentheses.
 pub fn print(alloc: Global, expr: &Expr) -> Result<Text, AllocError>
     ensures canonical { IfOk result (λ t. t ≡ canonical (view expr.now)) }
-    // If the expression is proper, the text spells it and no other.
+    // If the expression is proper, the text spells this expression and no other.
     ensures alone { IfOk result (λ t. IsProper (view expr.now) → SpellsAlone t (view expr.now)) }
 {
     let mut bytes = Vec::new(alloc);

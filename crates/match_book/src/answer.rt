@@ -19,7 +19,7 @@ pub enum Mark {
     ConnectionError,
 }
 
-/// Why a match refuses an answer: the first of these that holds. A refused answer changes nothing.
+/// Why a match refuses an answer: the first of these reasons that applies. A refused answer changes nothing.
 #[derive(Clone, Copy)]
 pub enum AnswerRefusal {
     /// The game has no such role.

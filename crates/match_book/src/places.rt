@@ -24,7 +24,7 @@ pub fn clear<T: Drop>(places: &mut Vec<Option<T>>)
     }
 }
 
-/// Whether no place is empty.
+/// Whether all places are filled.
 pub fn are_all_there<T>(places: &[Option<T>]) -> bool
     ensures { result ≡ every_role (length places.now) (is_there places.now) }
 {

@@ -67,7 +67,7 @@ pub fn abort_reply<G: Game>(held: &Match<G>) -> Reply
     }
 }
 
-/// Passes an answer to the match. If the match refuses the answer, the match stays as it is, and this returns `Ok`.
+/// Passes an answer to the match. If the match refuses the answer, it stays unchanged, and the result is `Ok`.
 pub fn take_answer<G: Game>(
     alloc: Global,
     game: &G,

@@ -22,8 +22,8 @@ pub struct Logging<'a, H, S> {
     /// The progress of the matches, if it is shown.
     pub progress: Option<&'a Progress>,
     pub notices: &'a Notices,
-    /// Whether only one player of each match is logged. If so, that player counts for the match, whatever its role;
-    /// otherwise the player of the first role counts.
+    /// Whether only one player of each match is logged. If so, the match is counted by that player, whatever its role,
+    /// and otherwise by the player of the first role.
     pub is_alone: bool,
     /// Whether the program reports on standard error the players whose messages all failed.
     pub names_absent: bool,
@@ -41,7 +41,7 @@ struct PlayerLog<'a> {
     /// The number of messages to the player, and of those that asked for a move.
     messages: u64,
     plays: u64,
-    /// Whether all these messages failed although the referee lacked no resource.
+    /// Whether all these messages failed and the referee lacked no resource.
     is_absent: bool,
     names_absent: bool,
     progress: Option<&'a Progress>,

@@ -48,7 +48,7 @@ impl Waiting {
         }
     }
 
-    /// Whether nothing waits, and more may come.
+    /// Whether no line waits, but more may come.
     fn is_idle(&self) -> bool
         ensures { IsTrue result ↔ IsNothing self.now false }
     {
@@ -56,8 +56,8 @@ impl Waiting {
         is_empty && !self.has_moved && !self.is_closed
     }
 
-    /// Appends a text line to the log. If too much waits, or if there was or is no memory for the line, counts the line
-    /// as left out.
+    /// Appends a text line to the log. Counts the line as left out if too much waits already, or if there was or is no
+    /// memory for it.
     fn log(&mut self, line: Result<String, AllocError>)
         ensures line { IfOk line (λ line. Waits self.old self.new (string_bytes line) ⊎ IsLeftOut self.old self.new) }
         ensures none { OnErr line (IsLeftOut self.old self.new) }
@@ -83,7 +83,7 @@ fn lines_in(text: &[u8]) -> u64 {
     count
 }
 
-/// Writes complete text lines until the stream fails. Returns how many were not written completely.
+/// Writes complete text lines until the stream fails. Returns the number of lines that were not written completely.
 fn unwritten<W: Write>(stream: &mut W, lines: &[u8]) -> u64 {
     let mut rest = lines;
     while !rest.is_empty() {
@@ -135,7 +135,7 @@ impl LogState {
     }
 }
 
-/// The reports of running matches. They wait until a separate thread writes them, so a reader that stops reading stops no match.
+/// The reports of running matches. They wait until a separate thread writes them, so that a reader that stops reading does not stop a match.
 #[derive(Drop)]
 pub struct Notices {
     alloc: Global,
@@ -201,7 +201,7 @@ impl Notices {
         self.changed.notify_one();
     }
 
-    /// Takes the reports. If there are none, waits for some, but not longer than `at_most`, if that is given.
+    /// Takes the reports. If there are none, waits for some, at most for `at_most` if that is given.
     fn take<H: Clock + Wait>(&self, rt: &H, at_most: Option<Duration>) -> Waiting {
         let at_most = at_most.unwrap_or(Duration::from_secs(LONGEST_WAIT_SECONDS));
         let mut waiting = self
@@ -218,8 +218,8 @@ impl Notices {
     }
 
     /// Writes the reports and the log until they end. If the log has no separate stream, it is written to the stream of
-    /// the reports. When the matches have progressed, rewrites the status line, but not before the line has been visible
-    /// for a moment.
+    /// the reports. When the matches have progressed, rewrites the status line, once the old one has been visible for a
+    /// moment.
     pub fn write_until_closed<H: Clock + Wait, E: Write, L: Write + Drop>(
         &self,
         rt: &H,

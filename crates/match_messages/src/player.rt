@@ -38,8 +38,8 @@ pub trait Player {
     fn rest(&mut self)
         ensures { handed self.new ≡ handed self.old };
 
-    /// Notifies the player that no further message comes, because the role's part of the match is over. The other roles may
-    /// be waiting for this.
+    /// Notifies the player that no further message comes, because the role's part of the match is over. Players of other
+    /// roles may wait for this signal.
     fn leave(&mut self)
         ensures { handed self.new ≡ handed self.old }
     {}

@@ -12,13 +12,13 @@ pub struct RolePlace<'a> {
     /// The match's id.
     pub id: &'a str,
     pub role: usize,
-    /// The largest number of bytes in the text of a move, among the moves of the match's game that fit into an answer.
+    /// The length in bytes of the game's longest move that fits into an answer.
     pub longest_move: usize,
 }
 
 /// Makes players.
 pub trait Reach {
-    /// The players that it makes.
+    /// The type of the players that it makes.
     type Player;
 
     ghost use Rattle.match_plans.specs.declared.addresses.PlayerAddress.{PlayerAddress};

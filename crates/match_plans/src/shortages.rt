@@ -17,7 +17,7 @@ pub enum Shortage {
     /// The clock cannot be read.
     #[error("no clock")]
     Clock,
-    /// The name of a host could not be looked up, for a reason that does not lie with the host.
+    /// The name of a host could not be looked up, and the host is not the cause.
     #[error("no answer from the resolver")]
     Resolver,
     /// This computer's network is down, has no route to the player, has no address of the player's family, or forbids the

@@ -30,7 +30,7 @@ use std::sync::Wait;
 use std::thread::Threads;
 use thiserror::Error;
 
-/// The limit of a role's `Next` calls. No match can need that many, however long its clocks are (`docs/COMMANDS.md`).
+/// The limit of a role's `Next` calls. No match needs that many, whatever its clocks (`docs/COMMANDS.md`).
 const MAX_TRIES: u64 = 1_000_000_000;
 
 /// Why a match has no record.

@@ -177,7 +177,7 @@ impl MatchQueue {
             .position(|waiting_match| self.can_begin(waiting_match))
     }
 
-    /// Whether matches wait, but none of them can begin.
+    /// Whether matches wait and none of them can begin.
     pub fn has_to_wait(&self) -> bool
         ensures { IsTrue result ↔ ((0 < deque_len self.now.waiting) × All (IsBusy self.now) self.now.waiting.items) }
     {

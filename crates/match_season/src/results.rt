@@ -34,7 +34,7 @@ pub struct MatchResult<N: OutputBrand> {
 #[derive(Drop)]
 pub struct Results<'r, N: OutputBrand> {
     pub receiver: &'r Receiver<MatchResult<N>>,
-    /// Whether no more results can come. A season keeps a sender until its end, so this never happens in a season.
+    /// Whether all senders are gone, so that no more results can come. A season keeps a sender until its end, so this never happens in a season.
     pub is_closed: bool,
 }
 

@@ -18,7 +18,7 @@ pub enum AfterMatch {
     Report,
     /// It begins another match after the pause. Its own match waits again.
     Retry,
-    /// It ends, so that one fewer match is played at once. Its own match waits again.
+    /// The thread ends, so that one fewer match is played at once. Its own match waits again.
     EndThread,
 }
 
@@ -154,7 +154,7 @@ impl Scheduler {
         next
     }
 
-    /// Lets no more matches begin.
+    /// Prevents further matches from beginning.
     pub fn close<R: Wait>(&self, rt: &R) {
         self.state.lock(rt).close();
         self.changed.notify_all();

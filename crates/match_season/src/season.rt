@@ -261,8 +261,8 @@ where
 ///
 /// A match begins when all earlier matches of the schedule have begun, except those with a player that has reached its
 /// limit of running matches. A match that runs out of memory or threads waits again, and from then on one fewer match is
-/// played at once. If only one is played at once, the season pauses for half a second before it tries a match again.
-/// After this pause, a match that runs out again has no record. The season pauses again only after a match that did not
+/// played at once. If only one match is played at once, the season pauses for half a second before it tries a match again.
+/// A match that runs out again after this pause has no record. The season pauses again only after a match that did not
 /// run out.
 ///
 /// If there is no memory for counting the records, or not even one thread can be started, no match begins and the result

@@ -15,7 +15,7 @@ use call_history::{Closed, LineEnd, RingDesk};
 use game_core::Game;
 use match_desk::{Manager, close_rings};
 
-/// Serves the calls that still wait at the desk of a match, and closes the desk.
+/// Serves the calls that are still waiting on the desk of a match, and closes the desk.
 pub fn close_match<G: Game + Drop>(
     desk: RingDesk<Manager<G>>,
     lines: Vec<LineEnd<Manager<G>>>,
@@ -31,7 +31,7 @@ pub fn close_match<G: Game + Drop>(
 
     ensures no_refusal { IfErr result (λ fault. reason_of fault ≡ None) }
 
-    // The waiting calls are served first. Otherwise a full history would be reported as a desk that was not closed.
+    // The waiting calls are served first. Otherwise, a full history would be reported as a desk that was not closed.
     ensures unclosed { IfErr result (λ fault. fault ≡ IsUnclosed → WasIdle desk lines.items) }
 {
     lines_stay::<Manager<G>>();

@@ -185,7 +185,7 @@ fn open_match<G: Game + Drop>(
 }
 
 /// Referees a match of the game between these players to its end, as `referee` does, with borrowed rules. The players come
-/// back in the order of the roles. Each received the messages of its role and nothing after them.
+/// back in the order of the roles. Each player received the messages of its role, and nothing after them.
 pub fn referee_shared<G, P, R>(
     rt: &R,
     alloc: Global,
@@ -241,12 +241,12 @@ where
 /// the match. Then a separate thread attends each role, in at most `tries` tries. These threads and the calling thread
 /// serve the desk. START contains these rules. At the end the desk is closed.
 ///
-/// The result is that of any closed desk of matches. Its history replays: a manager of the same game without matches, given
-/// these calls one by one on one thread, gives every stored reply and ends as this manager. The history has as many calls as
-/// the lines made. The manager has exactly one match, of this game and with this setup. The match is lawful, and its
-/// recorded moves were legal. For each recorded move of a role that was not yet retired, the history took exactly one
-/// answer, and the move and its error are the judgement of this answer. For each player, the contract says which messages it
-/// received and how attending its role ended.
+/// The result is that of any closed desk of matches. Its history can be replayed: if a manager of the same game, without
+/// matches, gets these calls one by one on one thread, it gives every stored reply and becomes this manager. The history has
+/// as many calls as the lines made. The manager has exactly one match, of this game and with this setup. The match is
+/// lawful, and its recorded moves were legal. For each recorded move of a role that was not yet retired, the history took
+/// exactly one answer, and the move and its error are the judgement of this answer. For each player, the contract says which
+/// messages it received and how attending its role ended.
 pub fn referee<G, P, R>(
     rt: &R,
     alloc: Global,

@@ -10,7 +10,7 @@ const BUDGET: usize = 1_048_576;
 /// At least this many bytes of each answer are free.
 const LEAST_FREE: usize = 64;
 
-/// How many bytes of a player's answers in a match were not free so far.
+/// The number of bytes of a player's answers in a match that have not been free so far.
 #[derive(Drop)]
 pub struct AnswerBudget {
     /// The number of bytes of each answer that are free.
@@ -30,8 +30,8 @@ impl AnswerBudget {
         }
     }
 
-    /// Spends the part of an answer of this length that is not free. Returns whether the answer counts: it does if it is free, or if the
-    /// budget is large enough.
+    /// Spends the part of an answer of this length that is not free. Returns whether the answer counts: an answer counts if it is free,
+    /// or if the budget is large enough.
     pub fn pay(&mut self, length: usize) -> bool
         ensures free { self.new.free ≡ self.old.free }
         ensures spent { self.new.spent ≡ spent_after self.old.spent self.old.free length }

@@ -13,7 +13,7 @@ use std::sync::{Arc, Mutex, Wait};
 use std::time::{Clock, Duration};
 use std::{io, thread};
 
-/// How often a message tries to see which lookups are under way, with a pause of a millisecond each time. Another thread
+/// How often a message tries to get the list of lookups, with a pause of a millisecond after each try. Another thread
 /// needs only microseconds for this.
 const MAX_TRIES: u32 = 1_000;
 
@@ -95,7 +95,7 @@ impl<H: Routes> Routes for Beside<'_, H> {
 }
 
 impl<H> Beside<'_, H> {
-    /// Starts the lookup. If there is no memory or thread for it, this is its result.
+    /// Starts the lookup. If there is no memory or thread for it, the lookup ends with this error.
     fn start(&self, query: &Arc<HostQuery>) {
         let started = match Arc::try_clone(query) {
             Ok(shared) => (self.begin)(self.host, shared),

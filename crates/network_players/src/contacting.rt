@@ -101,8 +101,8 @@ const MAX_SENDS: u32 = 10;
 /// The error of a message that could not be sent again after the program had not been running.
 const STOPPED: ContactFault = ContactFault::Shortage(Shortage::Processor);
 
-/// The error of a message: `fault` is the error of the last try, and `halt` is why no other try followed. If one of them
-/// says what the referee lacks, this is the error; otherwise it is `fault`.
+/// The error of a message: `fault` is the error of the last try, and `halt` is why no other try followed. If one of the
+/// two says what the referee lacks, the result is this one, and otherwise `fault`.
 fn fault_at_end(fault: ContactFault, halt: ContactFault) -> ContactFault
     ensures { result ≡ fault_at_end fault halt }
 {
@@ -152,9 +152,9 @@ fn probe_outside<N: Routes>(net: &N, address: &SocketAddr) -> io::Result<()> {
     net.probe(&outside(address.ip().to_canonical().is_ipv4()))
 }
 
-/// Whether a probe that this computer refused with this error says nothing about this computer's network, because only
-/// the address is the cause, or because the firewall passes only connections. The owner of the player chooses the
-/// address, and a router of the player can take away the address family.
+/// Whether a refused probe with this error shows nothing about this computer's network, because only the address is the
+/// cause, or because the firewall passes only connections. The owner of the player chooses the address, and the
+/// player's router can take away the address family.
 fn is_of_address<N: Routes>(net: &N, address: &SocketAddr, error: &io::Error) -> bool {
     match probe_outside(net, address) {
         Ok(()) => true,
@@ -164,8 +164,8 @@ fn is_of_address<N: Routes>(net: &N, address: &SocketAddr, error: &io::Error) ->
     }
 }
 
-/// What this computer lacks if it cannot send anything to the address. `None` if it can send, if no computer could, or if
-/// only the address is the cause.
+/// What this computer lacks if it cannot send anything to the address. `None` if this computer can send, if no computer
+/// could, or if only the address is the cause.
 fn refusal<N: Routes>(net: &N, address: &SocketAddr) -> Option<Shortage> {
     if !is_of_a_host(address) {
         return None;
@@ -244,8 +244,8 @@ pub(crate) fn fault_at_refusal(fault: ContactFault, refusal: Option<Shortage>) -
     }
 }
 
-/// The error of a message that failed with `fault`. If it failed in the network, and this computer now cannot send to the player, the error
-/// is what this computer lacks.
+/// The error of a message that failed with `fault`. If the message failed in the network, and this computer cannot send to the player now,
+/// the error says what this computer lacks.
 fn blamed<N: Routes>(net: &N, addresses: &[SocketAddr], fault: ContactFault) -> ContactFault {
     if is_of_network(fault) {
         fault_at_refusal(fault, refusal_of_all(net, addresses))
@@ -254,8 +254,8 @@ fn blamed<N: Routes>(net: &N, addresses: &[SocketAddr], fault: ContactFault) -> 
     }
 }
 
-/// The error of all addresses so far, from that of the earlier ones and that of the last one. A lack of ports or of a network counts only if
-/// no address gave another error.
+/// The error of all addresses so far, from the error of the earlier addresses and the error of the last one. A lack of ports or of a network
+/// counts only if no address gave another error.
 fn fault_so_far(before: ContactFault, last: ContactFault) -> ContactFault
     ensures { result ≡ fault_so_far before last }
 {
@@ -322,7 +322,7 @@ fn connect_to<N: Routes + Clock>(
 /// Tries each of the addresses once, until one accepts a connection. An address that has accepted a connection before comes
 /// first, and the others are then tried only while this computer lacks a resource. Without this rule, if the player's host
 /// name also had the address of another player, the player could pass its message on to that player by refusing a
-/// connection. `silent` is how many addresses did not answer: in the tries before, and then in these. It is 0 if no more
+/// connection. `silent` is the number of addresses that did not answer: on entry in the earlier tries, and on return in these. It is 0 if no more
 /// tries follow.
 fn try_each<N: Routes + Clock>(
     net: &N,
@@ -391,8 +391,8 @@ fn longest_pause(fault: ContactFault) -> Duration
     }
 }
 
-/// Pauses before the next try to connect, for at most `limit`. If no time is left for one, returns the error of the message; `fault` is the
-/// error of this try.
+/// Pauses before the next try to connect, for at most `limit`. If no time is left for another try, returns the error of the message.
+/// `fault` is the error of this try.
 fn pause<N: Clock>(
     net: &N,
     deadline: &mut Deadline,
@@ -425,7 +425,7 @@ enum AfterTry {
 }
 
 /// What follows a try with the error `fault`, after one with the error `before`. A player that accepts no connection, or whose
-/// host has no address, is tried again only if `is_patient`. A try that had no time left does not count, so the error is that of the earlier try.
+/// host has no address, is tried again only if `is_patient`. A try without time left does not count, so the error is that of the earlier try.
 fn after_try(fault: ContactFault, before: ContactFault, is_patient: bool) -> AfterTry
     ensures { result ≡ after_try before is_patient fault }
 {
@@ -466,7 +466,8 @@ fn wait_for_resource<N: Clock>(
 
 /// Connects to the player within the time that is left. Tries again while the referee lacks a resource, for as long as the message has time
 /// at first; this costs the message none of its time. If the player accepts no connection or its host has no address, tries again for some
-/// seconds, counted from the start of the message, from such a lack, or from a try during which the program was not running.
+/// seconds. These are counted from the start of the message, from the last time that the referee lacked a resource, or from a try during
+/// which the program was not running.
 fn connect<N: Resolves + Clock>(
     net: &N,
     alloc: Global,

@@ -27,13 +27,13 @@ const STALL_MILLIS: u64 = 100;
 /// time, but a wait for bytes too late.
 const LAST_MILLIS: u64 = 20;
 
-/// When the time is over, this many reads may still take the bytes that are there. Together they can take the longest answer.
+/// The number of reads that may still take the bytes that are there when the time is over. Together they can take the longest answer.
 const LOOKS: u32 = 64;
 
 /// The time limit of a read whose bytes are there, in milliseconds.
 const AT_ONCE_MILLIS: u64 = 1;
 
-/// The time that a step costs a message. If the program was not running for a part of it, the step costs only what was requested.
+/// The time that a step costs a message. If the program was not running for a part of the step, the step costs only the requested time.
 fn charged(asked: Duration, passed: Duration) -> Duration
     ensures { IsCharged (as_nanos asked) (as_nanos passed) (as_nanos result) }
 {
@@ -63,8 +63,8 @@ fn share(left: Duration, among: u32) -> Duration
     (left / among.max(1)).max(Duration::from_millis(1))
 }
 
-/// The time limit of a try to connect to an address. At first `silent` is 0: `untried` addresses are left, and each gets only
-/// a short time. Then the `silent` addresses that did not answer share the time that is left.
+/// The time limit of a try to connect to an address. As long as `silent` is 0, there are `untried` addresses, and each gets
+/// only a short time. Then the `silent` addresses that did not answer share the time that is left.
 pub(crate) fn try_limit(left: Duration, silent: u32, untried: usize) -> Duration
     ensures { as_nanos result ≡ try_limit (as_nanos left) silent untried }
 {
@@ -82,7 +82,7 @@ pub(crate) fn doubled(time: Duration, longest: Duration) -> Duration
     time.saturating_mul(2).min(longest)
 }
 
-/// The error of a message whose time is over. How much of its answer has come is not known here.
+/// The error of a message whose time is over. How much of the answer has arrived is not known here.
 pub(crate) const LATE: ContactFault = ContactFault::Late(Received::Unconnected);
 
 /// The error of a message if the clock cannot be read.
@@ -94,7 +94,7 @@ pub struct Deadline {
     /// When the clock was last read. `left` is the time that was left then.
     pub(crate) seen: Instant,
     pub(crate) left: Duration,
-    /// Whether the program was not running for a part of the last try to connect, or since then.
+    /// Whether there was a time since the beginning of the last try to connect in which the program was not running.
     pub(crate) has_stalled: bool,
     /// How many reads may still take the bytes that are there when the time is over.
     looks: u32,
@@ -202,7 +202,7 @@ fn step_at(left: Duration, looks: u32) -> Step
     }
 }
 
-/// More steps than a wait for bytes takes, unless the program is stopped that often.
+/// A wait for bytes takes fewer steps than this, unless the program is stopped that often.
 const MAX_STEPS: u32 = 1_000_000;
 
 /// Whether the error means that a step ran out of time. An error with a number means that the system gave up the connection.
@@ -243,8 +243,8 @@ fn take_step<C: Clock, S: OpenStream>(clock: &C, stream: &S, step: &Step) -> io:
     }
 }
 
-/// Whether there is something to read, or the connection is closed or broken. A player says nothing before it has the request, so it then
-/// does not take the request.
+/// Whether there is something to read, or the connection is closed or broken. A player sends nothing before it has the request, so in
+/// this case it does not take the request.
 pub(crate) fn is_gone<C: Clock, S: OpenStream>(clock: &C, stream: &S) -> bool {
     !matches!(take_step(clock, stream, &Step::Looks), Ok(false))
 }

@@ -1,4 +1,4 @@
-//! Looks up the addresses of a host. This takes as long as the resolver of this computer takes.
+//! Looks up the addresses of a host. A lookup takes as long as this computer's resolver takes.
 
 use crate::routes::{Routes, lack_of_network, lack_since, lacks_route};
 use crate::shortage::{lookup_shortage, shortage_of};
@@ -72,7 +72,7 @@ fn told_addresses<N: Routes>(
     }
 }
 
-/// What the referee lacks if this may be why the resolver found no address. The resolver needs as many open descriptors
+/// What the referee lacks, if the lack may be the reason why the resolver found no address. The resolver needs as many open descriptors
 /// as two pairs of sockets.
 fn resolver_shortage<N: Net>(net: &N) -> Option<Shortage> {
     let first = UnixStream::pair(net);

@@ -51,7 +51,7 @@ impl HostQuery {
         self.end(addresses(net, self.alloc, self.host.as_str(), self.port));
     }
 
-    /// Stores the result of the lookup. Only the first one counts.
+    /// Stores the result of the lookup. Only the first result counts.
     pub(crate) fn end(&self, found: Found) {
         let _ = self.found.try_set(found);
     }
@@ -94,7 +94,7 @@ pub trait Resolves: Routes {
 }
 
 /// Makes the lookup in a separate thread. The caller does not wait for this thread. The error means that no thread can be
-/// created. The types of the sockets are named because otherwise nothing shows that the thread may use the network.
+/// created. The types of the sockets are named, because otherwise nothing shows that the thread may use the network.
 pub fn make_beside<R>(rt: R, query: Arc<HostQuery>) -> Result<(), AllocError>
 where
     R: Net<Listener = TcpListener, Stream = TcpStream> + Threads + Copy + Send + 'static,
@@ -228,8 +228,8 @@ impl Lookup {
     }
 
     /// Looks up the addresses of the player's host, for as long as the message has time. Once it has some, later calls return the same
-    /// addresses. A lookup that takes longer continues for the next message. If it takes too long while this computer has no network, the
-    /// referee lacks a network.
+    /// addresses. A lookup that takes longer continues for the next message. If the lookup takes too long while this computer has no
+    /// network, the referee lacks a network.
     pub fn look_up<N: Resolves + Clock>(
         &mut self,
         net: &N,

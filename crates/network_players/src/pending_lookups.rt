@@ -1,5 +1,5 @@
-//! The lookups of the whole program that have not ended. They are bounded, because a resolver may take long to answer, and no match is to lack a
-//! descriptor for this.
+//! The lookups of the whole program that have not ended. Their number is limited, because a resolver may take long to answer, and the lookups
+//! must leave descriptors for the matches.
 ghost use Rattle.std.specs.Prelude.{◌≡◌, ◌≤◌, IfOk, IfSome, length, string_bytes};
 ghost use Rattle.std.specs.Arc.{arc_value};
 ghost use Rattle.network_players.specs.Lookups.{lookup_descriptors};
@@ -18,7 +18,7 @@ const MOST: u64 = 1_024;
 /// The number of descriptors if the limit is unknown.
 const USUAL_DESCRIPTORS: u64 = 1_024;
 
-/// How many of this many descriptors are kept for lookups: a quarter, but enough for one lookup, and for at most 1,024.
+/// The number of descriptors that are reserved for lookups: a quarter of all, but enough for one lookup, and at most for 1,024.
 pub fn lookup_descriptors(descriptors: u64) -> u64
     ensures { result ≡ lookup_descriptors descriptors }
 {

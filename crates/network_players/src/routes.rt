@@ -50,7 +50,7 @@ pub trait Routes: Net {
     fn lack_of_route(&self, address: &SocketAddr) -> Option<Shortage>;
 
     /// Tries to send an empty datagram to the address. Only this computer's interfaces, routes and firewall can make this fail: the socket is
-    /// new, so no reply can have come.
+    /// new, so it cannot have received a reply.
     fn probe(&self, address: &SocketAddr) -> io::Result<()>;
 }
 

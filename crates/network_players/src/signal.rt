@@ -81,7 +81,7 @@ impl RoundSignal {
         calls
     }
 
-    /// Notes that a player leaves. The match is then usually over, so this wakes the others.
+    /// Notes that a player leaves. Then the match is usually over, so the other players are woken.
     fn leave(&self) {
         self.players.fetch_sub(1, Ordering::SeqCst);
         self.call();
@@ -113,7 +113,7 @@ pub struct Pace<'a> {
     signal: &'a RoundSignal,
     /// The number of messages that the player got.
     messages: u64,
-    /// How often the players had been woken when the role last asked what is due.
+    /// The number of times that the players had been woken when the role last asked what is due.
     seen: u64,
     /// The longest next wait.
     rest: Duration,

@@ -44,7 +44,7 @@ pub struct SocketPlayer<'a, H> {
     port: u16,
     lookup: Lookup,
     budget: AnswerBudget,
-    /// Why the last message brought no answer. `None` if it brought one.
+    /// Why the last message brought no answer. `None` if there was an answer.
     fault: Option<ContactFault>,
 }
 
@@ -95,7 +95,7 @@ impl<'a, H> Reach for Sockets<'a, H> {
     }
 }
 
-/// The answer that an exchange with a player counts as: silent if no answer came in time, and broken after any other error.
+/// The answer for an exchange with a player: silent if no answer came in time, and broken after any other error.
 pub fn answer_of(exchanged: Result<Text, WireFault>) -> Answer
     ensures { result ≡ answer_of exchanged }
 {
@@ -106,7 +106,7 @@ pub fn answer_of(exchanged: Result<Text, WireFault>) -> Answer
     }
 }
 
-/// The answer that sending a message counts as: silent if the time was over, and broken after any other error. If the referee lacked a
+/// The answer for a message to a player: silent if the time was over, and broken after any other error. If the referee lacked a
 /// resource, the answer counts as broken too, and the match has no record.
 fn contact_answer(reached: Result<Text, ContactFault>) -> Answer
     ensures { result ≡ contact_answer reached }
@@ -152,7 +152,7 @@ impl<H> Explains for SocketPlayer<'_, H> {
 }
 
 impl<H: Resolves + Clock> SocketPlayer<'_, H> {
-    /// Sends a message, which begins a round, and waits for the answer. Stores why there was none.
+    /// Sends a message, which begins a round, and waits for the answer. Stores why there was no answer.
     fn hand_over(&mut self, seconds: u32, message: &SharedText<'_>) -> Answer
         ensures answer { MatchOption self.new.fault (IsPaidText self.old.budget self.new.budget result) (λ fault. result ≡ contact_answer (Err fault)) }
         ensures pace { HasAnswered self.old.pace self.new.pace }

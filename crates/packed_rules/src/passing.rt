@@ -130,8 +130,8 @@ fn sweep(table: &RuleTable, words: &mut [u64], size: usize, terms: usize, joint:
     }
 }
 
-/// Evaluates the rules in order, and sets the head of each rule whose tests pass. Without other literals, this loop is
-/// twice as fast.
+/// Evaluates the rules in order, and sets the head of each rule whose tests pass. For rules that have only tests, this
+/// loop is twice as fast.
 fn sweep_tests(rules: &[RuleSize], tests: &[Test], words: &mut [u64], size: usize, terms: usize)
     requires size { size ≤ length words.old * 64 }
     requires cut { AreTestsCut rules.now tests.now }

@@ -8,7 +8,7 @@ pub struct Test {
     pub value: bool,
 }
 
-/// A role and the term of a move, and whether the role must make this move or must not.
+/// A role, the term of a move, and whether the role must make this move or must not make it.
 #[derive(Clone, Copy)]
 pub struct MoveTest {
     pub role: u32,

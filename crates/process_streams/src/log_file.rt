@@ -34,7 +34,7 @@ impl<F: Write + OpenFile> Write for LogFile<F> {
     }
 }
 
-/// Whether the last line of a file of this length has no line feed. Then the program that wrote it was interrupted.
+/// Whether a file of this length ends without a line feed, because the program that wrote it was interrupted.
 pub(crate) fn is_torn<F: Read + Seek>(file: &mut F, length: u64) -> io::Result<bool> {
     file.seek(SeekFrom::Start(length.saturating_sub(1)))?;
     let mut last = [0u8; 1];

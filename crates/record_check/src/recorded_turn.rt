@@ -25,8 +25,8 @@ enum RecordedMove<M> {
     NoMove,
     /// A legal move with an error that it cannot have.
     WrongError,
-    /// A legal move with an error that it can have, but not for this role: the error says that the role is retired but the
-    /// role is not, or the other way round.
+    /// A legal move with an error that is possible for the move, but not for this role: the error says that the role is
+    /// retired and it is not, or the role is retired and the error does not say so.
     WrongRetired,
 }
 
@@ -111,7 +111,7 @@ fn next_moves<G: Game>(
 }
 
 /// The joint move with these texts, or the error of the lowest role that is wrong. `strikes` has the roles' strikes after
-/// the earlier turns. Each role's moves are computed only once, because this may take long.
+/// the earlier turns. Computes each role's moves only once, because this may take long.
 fn recorded_joint<G: Game>(
     alloc: Global,
     game: &G,

@@ -55,7 +55,7 @@ fn with_item(
 }
 
 /// Reads the value that begins with the token. The value is kept if its lists nest at most `lists` deep, the innermost
-/// lists have only texts, and it has no object and no truth value.
+/// lists have only texts, and it contains neither objects nor truth values.
 #[cycle(kept)]
 fn value_of(
     alloc: Global,

@@ -58,7 +58,7 @@ fn goal_in(found: Option<&Value>) -> Option<u8>
     }
 }
 
-/// Whether a record may have this many goals: none, or one for each role.
+/// Whether a record may have this many goals: 0, or one for each role.
 fn is_goal_count(goals: usize, roles: usize) -> bool
     ensures { result ≡ (goals == 0 || goals == roles) }
 {
@@ -261,7 +261,7 @@ fn keep<T: Drop>(part: &mut T, read: Option<T>) -> bool
     }
 }
 
-/// Stores the value, if it was read. Returns whether it was read, or an error if memory ran out.
+/// Stores the value, if it was read. Returns whether the value was read, or an error if memory ran out.
 fn keep_read<T: Drop>(part: &mut T, read: Result<Option<T>, AllocError>) -> Result<bool, AllocError>
     ensures { IfOk result (λ kept. read ≡ Ok (if kept then Some part.new else None)) }
 {

@@ -172,7 +172,7 @@ pub fn attend_shared<W: Wire<Call = Call, Reply = Reply>, P: Player>(
 }
 
 /// Attends one role of a match to its end: asks the desk what it owes to the role, sends each owed message to the player
-/// once, and gives the desk the answer for its round. Returns how many messages it sent.
+/// once, and gives the desk the answer for its round. Returns the number of messages that it sent.
 ///
 /// Each question is one try, even if the player must then wait. After the last try this stops with `Stalled`. An error
 /// does not undo anything that was done before it.

@@ -71,8 +71,8 @@ pub fn seat_players<'a, P: Drop, W: Drop>(
     Ok(seats)
 }
 
-/// Attends the role of a seat over its wire, and then signals the end. If memory runs out, it stops the desk: the match
-/// cannot end without this role, and the other workers would ask until the history is full.
+/// Attends the role of a seat over its wire, and then signals the end. If memory runs out, the thread stops the desk:
+/// the match cannot end without this role, and the other workers would ask until the history is full.
 fn attend_seat<P: Player + Drop, W: Wire<Call = Call, Reply = Reply>>(
     alloc: Global,
     seat: Seat<'_, P, W>,
@@ -143,7 +143,7 @@ fn give_up<W: Wire<Call = Call, Reply = Reply>>(
     Ok(())
 }
 
-/// Gives these roles up. Then their matches end, and the threads that attend the other roles end too.
+/// Gives these roles up. Then the match ends, and the threads of the other roles end too.
 fn give_up_all<W: Wire<Call = Call, Reply = Reply>>(
     alloc: Global,
     own: &mut W,

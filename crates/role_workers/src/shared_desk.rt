@@ -46,7 +46,7 @@ struct NamedDesk<O: Object<Call = Call, Reply = Reply>, N: DeskBrand<O>> {
 }
 
 impl<O: Object<Call = Call, Reply = Reply>, N: DeskBrand<O>> NamedDesk<O, N> {
-    /// Serves and counts a round. It skips no line before the one at which it stops.
+    /// Serves and counts a round. It visits all lines before the one at which it stops.
     fn round(&mut self) -> Result<u64, DeskFault>
         ensures visits { MatchResult result
             (λ _. Visits self.old.desk.journal.history self.new.desk.journal.history self.old.desk.ports self.new.desk.ports (length self.old.desk.ports))
@@ -70,7 +70,7 @@ impl<O: Object<Call = Call, Reply = Reply>, N: DeskBrand<O>> NamedDesk<O, N> {
     }
 }
 
-/// How many more rounds in a row may lack memory for a call, after a round with this result.
+/// After a round with this result: the number of further rounds in a row that may lack memory for a call.
 fn rounds_left(before: u64, served: &Result<u64, DeskFault>) -> u64
     ensures { result ≡ rounds_left before served.now }
 {

@@ -104,8 +104,8 @@ fn name_few_atomic_sentences(rules: &[Rule], limits: Limits) -> bool
     left > 0
 }
 
-/// Whether the rules are within the limit of distinct atomic sentences. If this is so even with repeated sentences, the
-/// function allocates no set; otherwise it counts the distinct ones.
+/// Whether the rules are within the limit of distinct atomic sentences. If they are within the limits even when
+/// repeated sentences count, the function allocates no set. Otherwise it counts the distinct ones.
 pub fn have_few_atomic_sentences(
     alloc: Global,
     rules: &[Rule],

@@ -25,7 +25,7 @@ pub enum NextLine {
     Nothing,
 }
 
-/// The bytes of an input that were read but are not yet part of a line. Contracts see this value as these bytes. Together
+/// The bytes of an input that were read but are not yet part of a line. Contracts see the buffer as these bytes. Together
 /// with the bytes left in the stream, they are the rest of the input.
 #[derive(Drop)]
 pub struct LineBuffer {
@@ -118,7 +118,7 @@ impl LineBuffer {
         }
     }
 
-    /// Moves the buffered bytes up to a line feed to the end of the line. Returns whether the line ends there. On an error these
+    /// Moves the buffered bytes up to a line feed to the end of the line. Returns whether the line ends at that place. On an error these
     /// bytes are lost.
     fn take_piece(&mut self, line: &mut Vec<u8>, limit: usize) -> Result<bool, InputFault>
         requires { length line.old.items ≤ limit }
