@@ -61,6 +61,11 @@ class Results(unittest.TestCase):
             self.assertIsNone(retired(strikes, *errors))
         self.assertEqual(retired(255, *["TO"] * 256), "TO in turns 1 to 255")
 
+    def test_a_role_is_absent_if_it_had_turns_and_no_move_of_its_own(self):
+        for errors, absent in (([["TO", ""]] * 2, [True, False]), ([["TO", ""], ["", "TO"]], [False, False]), ([], [False, False])):
+            found = result_of(record(errors=errors, moves=[["a", "n"]] * len(errors)), MATCH)
+            self.assertEqual([found.is_absent(role) for role in (0, 1)], absent)
+
 
 LOGGED = logged([event_of(line(MATCH, role, 1, "(START cup-001 o ... 10 5)", "ready", 3 + role).encode()) for role in (0, 1)])
 
