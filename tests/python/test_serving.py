@@ -280,6 +280,29 @@ class Pages(Served):
         self.assertNotIn("not read yet", self.page("/"))
         self.assertIn("6 of 6 matches are over.", self.page("/"))
 
+    def test_a_page_changes_although_the_matches_on_it_stay_the_same(self):
+        own, other = self.plan.matches[:2]
+        end(self.plan, own, record_of(own, [], [], [50, 50]))
+        self.look()
+        self.assertIn("Place 1 of 2 in all games", self.page("/players/player-ann.html"))
+        end(self.plan, other, record_of(other, [], [], [50, 50]))
+        self.look()
+        self.assertIn("Place 1 of 3 in all games", self.page("/players/player-ann.html"))
+
+    def test_ratings_are_shown_once_all_records_are_read_even_if_the_last_does_not_count(self):
+        good, bad = self.plan.matches[:2]
+        end(self.plan, good, record_of(good, [], [], [50, 50]))
+        end(self.plan, bad, record_of(bad, [], [], [101, 0]))
+        with patch.object(live, "READING", -1):
+            self.look()
+            self.site.reader.update_record(good.id)
+            self.look()
+            found = [self.page("/games/heap.html")]
+        self.look()
+        found.append(self.page("/games/heap.html"))
+        ratings = [{row[-1][0] for row in rows_of(parsed(page).find(id="standings"))[1:]} for page in found]
+        self.assertEqual(ratings, [{"n"}, {"0"}])
+
     def test_pages_of_results_are_made_without_their_files(self):
         for match in self.plan.matches[:2]:
             end(self.plan, match, record_of(match, [["(take 2)", "noop"]], [["", "TO"]], [50, 50]))
