@@ -6,14 +6,16 @@ import unittest
 from collections import Counter
 from dataclasses import replace
 
-from ggp_tools.competition.competition_file import read_competition
+from ggp_tools.competition.competition_file import Faults, read_competition
+from ggp_tools.competition.files import Folder, Refused
 from ggp_tools.competition.plan import Plan
 from ggp_tools.competition.ratings import Rating
 from ggp_tools.competition.results import Result, Retirement
 from ggp_tools.competition.rounds import Round
 from ggp_tools.competition.schedule import Match
 from ggp_tools.competition.table import Line, Table, tables_of
-from ggp_tools.competition.table_text import HEADS, crosstable_rows, csv_text, fields, notes, rating_text, standings_rows, table_files
+from ggp_tools.competition.table_text import HEADS, crosstable_rows, csv_text, fields, joined, notes, rating_text, standings_rows, table_files
+from ggp_tools.descriptions.loading import Rules
 from support import toml
 
 NAMES = ["ann", "bob", "cid", "dan"]
@@ -144,3 +146,45 @@ class Tables(unittest.TestCase):
         # The notes do not mention rounds.
         row = next(csv.DictReader(files["table.csv"].decode().splitlines()))
         self.assertEqual([row[key] for key in ("byes", "buchholz", "rounds_won")], ["0", "", ""])
+
+
+class Joined(unittest.TestCase):
+    def plan(self, name, players, games, head="", form='kind = "round_robin"', digest="1"):
+        """Returns the plan of a competition without matches. Its rules have this checksum."""
+        text = toml([(player, f"h:{at}", *more) for at, (player, *more) in enumerate(players, 1)], [(game, "f") for game in games], form, head)
+        found = read_competition(text.replace('"cup"', f'"{name}"').encode())
+        return Plan(Folder(name), found, {game: Rules(b"(role a)", digest, ("a",)) for game in games}, [Match(f"{name}-001", games[0], 1, 1, ("ann",))])
+
+    def test_one_table_has_the_players_and_games_of_all_and_the_anchors_of_the_first(self):
+        first = self.plan("cup", [("ann",), ("bob", "withdrawn = true")], ["two"], "anchor = {ann = 1500, bob = 1000}")
+        second = self.plan("last", [("cid",), ("bob",), ("ann",)], ["one", "two"], "anchor = {ann = 1600, cid = 900}")
+        found = joined([first, second])
+        self.assertEqual(joined([first]), first)
+        self.assertEqual((found.competition.name, [match.id for match in found.matches]), ("cup + last", ["cup-001", "last-001"]))
+        self.assertEqual(found.competition.anchor, {"ann": 1500, "bob": 1000, "cid": 900})
+        self.assertEqual([player.name for player in found.competition.players], ["ann", "bob", "cid"])
+        self.assertEqual(([game.name for game in found.competition.games], [*found.rules]), (["two", "one"], ["two", "one"]))
+        self.assertEqual(found.competition.withdrawn(), {})
+
+    def test_rules_that_differ_are_not_those_of_the_table(self):
+        forfeit, lapse, points, swiss = "forfeit = true", "[faults]\nreplaced = 3", 'order = "points"', {"form": 'kind = "swiss"\nrounds = 1\nfinal = 2'}
+        for heads, forms, rules in (
+            ((forfeit, forfeit), ({}, {}), (True, Faults(0), "goals")), ((forfeit, ""), ({}, {}), (False, Faults(0), "goals")),
+            ((lapse, lapse), ({}, {}), (False, Faults(3), "goals")), ((lapse, ""), ({}, {}), (False, Faults(0), "goals")),
+            ((points, ""), ({}, {}), (False, Faults(0), "points")), (("", points), ({}, {}), (False, Faults(0), "goals")),
+            (("", ""), ({}, swiss), (False, Faults(0), "points")), (("", ""), (swiss, {}), (False, Faults(0), "points")),
+        ):
+            plans = [self.plan(name, [("ann",), ("bob",)], ["two"], head, **form) for name, head, form in zip(("cup", "last"), heads, forms)]
+            found = joined(plans).competition
+            self.assertEqual((found.forfeit, found.faults, found.order), rules, (heads, forms))
+            self.assertEqual((found.form.kind, found.form.final), ("round_robin", 0))
+
+    def test_which_competitions_have_no_table_together(self):
+        first = self.plan("cup", [("ann",)], ["two"])
+        for other, said in (
+            (self.plan("cup", [("bob",)], ["two"]), "two of the directories have a competition named cup; a joint table needs different names"),
+            (self.plan("last", [("bob",)], ["one", "two"], digest="2"), "the rules of two in last differ from those in an earlier directory"),
+        ):
+            with self.assertRaises(Refused) as caught:
+                joined([first, other])
+            self.assertEqual(str(caught.exception), said)
