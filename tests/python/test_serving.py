@@ -436,6 +436,23 @@ class Pages(Served):
         self.assertIn(f"ann was restarted 2 times, the last time, for {self.plan.matches[2].id}<", self.page("/"))
         self.assertNotIn("bob was restarted", self.page("/"))
 
+    def test_a_new_run_forgets_who_was_restarted_in_the_earlier_one(self):
+        players = tuple(dataclasses.replace(player, command=Mock(restart=WHEN_DEAD)) for player in self.plan.competition.players)
+        self.plan.competition = dataclasses.replace(self.plan.competition, players=players)
+        match, other = self.plan.matches[:2]
+        log = begin(self.plan, match, started(match))
+        self.site = self.server.site = LiveSite(self.plan, Referee(program()), lambda: self.plan)
+        # Ann plays, so her restart is not shown yet.
+        rows = [f"restart {other.id} {name}: process 7, port 8" for name in ("cid", "ann")]
+        self.write_journal(rows)
+        self.look()
+        self.assertIn(f"cid was restarted once, for {other.id}<", self.page("/"))
+        self.write_journal([*rows, "play 5 matches"])
+        self.look()
+        self.say(log, self.play(match, 2, "NIL", ["(take 1)", "noop"]))
+        self.look()
+        self.assertNotIn("was restarted", self.page("/"))
+
     def test_a_turn_that_was_broken_off_counts_as_open(self):
         """The match may begin again, and then the players do not know yet who was dead."""
         match, other = self.plan.matches[:2]
