@@ -507,6 +507,20 @@ class Started(InFolder):
         status, out, said = run(self.folder, "try", "competition.toml", "ann")
         self.assertEqual((status, out.partition(";")[0]), (1, "down try ann: it ended with status 2"), said)
 
+    @unittest.skipUnless(shutil.which("gringo"), "gringo is not installed")
+    def test_try_sends_the_rules_and_the_clocks_of_the_game(self):
+        # START fits into a line of the output.
+        rules = "(role a) (n 1) (n 2) (<= (legal a ?n) (n ?n)) (<= (next on) (does a ?n)) (<= terminal (true on)) (goal a 9)"
+        (self.folder / "say.kif").write_text(rules)
+        text = toml([("ann", "h:1"), ("bob", "h:2")], [("say", "say.kif", 'player_rules = "variables"', "start = 61", "play = 59")])
+        command = f'command = ["{TOP}/examples/players/interpreting.py", "{{port}}"]\nstart_seconds = 600'
+        (self.folder / "competition.toml").write_text(text.replace('address = "h:1"', command))
+        status, out, said = run(self.folder, "try", ".", "ann")
+        self.assertEqual((status, said), (0, ""), out)
+        self.assertRegex(out, r"\(START check-0 a \(\(role a\) .*\?.* 61 59\)\tready\t")
+        why = "competition.toml: bob has no `command`; `ggp_manager check` tests a running player"
+        self.assertEqual(run(self.folder, "try", ".", "bob"), (2, "", f"ggp_competition: {why}\n"))
+
     def test_plan_names_the_players_that_run_as_the_same_user(self):
         self.planned()
         words = "players that run as your user, and can read and change everything that you can: "
