@@ -366,6 +366,16 @@ def test_a_log_is_rotated(tmp_path, monkeypatch):
     assert (tmp_path / "ann.log").read_text() == "x"
 
 
+def test_the_last_lines_are_those_since_the_last_start_even_if_the_log_was_rotated(tmp_path, monkeypatch):
+    monkeypatch.setattr(started_players, "MOST_BYTES", 100)
+    log = PlayerLog(tmp_path / "ann.log")
+    log.write(b"old\n" * 20)
+    log.mark("start for cup-002")
+    assert log.last_lines() == []
+    log.write(b"new\n" * 20)
+    assert (log.last_lines(), (tmp_path / "ann.log.1").exists()) == (["new"] * 5, True)
+
+
 def test_a_player_that_floods_its_output_holds_nothing_up(tmp_path, monkeypatch):
     monkeypatch.setattr(started_players, "MOST_BYTES", 100_000)
 
