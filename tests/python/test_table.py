@@ -14,7 +14,10 @@ from ggp_tools.competition.results import Result, Retirement
 from ggp_tools.competition.rounds import Round
 from ggp_tools.competition.schedule import Match
 from ggp_tools.competition.table import Line, Table, tables_of
-from ggp_tools.competition.table_text import HEADS, crosstable_rows, csv_text, fields, joined, notes, rating_text, standings_rows, table_files
+from ggp_tools.competition.table_text import (
+    HEADS, METHOD, crosstable_rows, csv_text, fields, forfeit_rule, in_order, joined, method_of, notes, rating_text, standings_rows, table_files, table_text,
+    without_record,
+)
 from ggp_tools.descriptions.loading import Rules
 from support import toml
 
@@ -146,6 +149,61 @@ class Tables(unittest.TestCase):
         # The notes do not mention rounds.
         row = next(csv.DictReader(files["table.csv"].decode().splitlines()))
         self.assertEqual([row[key] for key in ("byes", "buchholz", "rounds_won")], ["0", "", ""])
+
+
+class Texts(unittest.TestCase):
+    TEXT = """cup: 2 of 3 matches
+
+all games
+
+   player                    matches   goals  won  drawn  lost  replaced  absent  retired  rating
+1  ann                             1  100.00    1      0     0    0 of 5       0        0    none
+2  cid                             1   50.00    0      1     0    1 of 5       0        0    none
+3  bob (no move of its own)        2   25.00    0      1     1  10 of 10       2        0    none
+
+points / matches
+   player    1      2      3
+1  ann       .      .    1/1
+2  cid       .      .  0.5/1
+3  bob     0/1  0.5/1      .
+* bob made no move of its own: all of its moves were replaced
+"""
+
+    def test_the_text_of_a_table(self):
+        results = [result(["ann", "bob"], [100, 0], [0, 5]), result(["bob", "cid"], [50, 50], [5, 1])]
+        plan = Plan(None, competition(), {}, [*(played.match for played in results), Match("m3", "two", 1, 1, ("ann", "bob"))])
+        self.assertEqual(table_text(plan, tables_of(competition(), results, is_rated=False)[:1]), f"{self.TEXT}\nRatings: {METHOD}.\n")
+
+    def test_how_ratings_are_shifted(self):
+        for head, said in (("", ""), ("anchor = {ann = 1500}", "; shifted so that ann has 1500"), ("anchor = {ann = 1500, bob = -3}", "; shifted so that ann has 1500 and bob has -3 on average")):
+            self.assertEqual(method_of(competition(head)), METHOD + said)
+
+    def test_who_loses_a_match_is_explained(self):
+        retired, replaced = "it was retired", "1,000 or more of its moves were replaced (forced moves do not count)"
+        lapses = "[faults]\nreplaced = 1000"
+        for head, said in (("forfeit = true", retired), (lapses, replaced), (f"forfeit = true\n{lapses}", f"{retired}, or if {replaced}")):
+            self.assertTrue(forfeit_rule(competition(head)).startswith(f"A player loses a match if {said}. It then gets 0."))
+        self.assertEqual(forfeit_rule(competition()), "")
+
+    def test_the_group_of_a_rating_is_told_if_there_are_several(self):
+        for groups, said in (((1, 1), "7 +- 2"), ((1, 2), "7 +- 2 in 1"), ((1, None), "7 +- 2")):
+            lines = {name: Line(name, matches=1, rating=Rating(7, 2, group)) for name, group in zip(NAMES, groups)}
+            self.assertEqual(rating_text(Table("two", lines), lines["ann"]), said)
+
+    def test_which_notes_there_are(self):
+        rounds = [Round(1, (("ann", "bob"),), ("cid",)), Round(2, (("cid", "ann"),), ())]
+        lines = {"ann": Line("ann", matches=2, absent=1), "bob": Line("bob", matches=1), "cid": Line("cid", byes=1), "dan": Line("dan", matches=1, absent=1)}
+        said = ["round 1; bye: cid", "ann made no move of its own in 1 of its 2 matches", "dan made no move of its own: all of its moves were replaced"]
+        table = Table("two", lines, rounds=rounds)
+        self.assertEqual(sorted(notes(table)), sorted(said))
+        self.assertEqual([row[1] for row in standings_rows(table)], ["player", "ann", "bob", "cid", "dan (no move of its own)"])
+
+    def test_results_are_in_the_order_of_the_schedule(self):
+        matches = [Match(f"m{at}", "two", 1, 1, ("ann", "bob"), withdrawn="gone" * (at == 3)) for at in range(4)]
+        results = {match.id: replace(result(["ann", "bob"], [0, 0]), match=replace(match, reason="old")) for match in (matches[2], matches[0])}
+        plan = Plan(None, competition(), {}, matches)
+        self.assertEqual([played.match for played in in_order(plan, results)], [matches[0], matches[2]])
+        self.assertEqual(without_record(plan, results.values()), [matches[1]])
 
 
 class Joined(unittest.TestCase):
