@@ -290,6 +290,14 @@ class Checked(Made):
         with mock.patch.object(archive, "unpack", side_effect=Spoilt("a\x1b[1m\u00e9\nb ~")):
             self.assertEqual(self.check(), (["a?[1m?", "b ~"], ""))
 
+    def test_an_archive_may_be_in_a_directory_whose_name_begins_like_that_of_the_competition(self):
+        beside = self.room / "made-archives"
+        beside.mkdir()
+        for path in (beside / "cup.tar.gz", self.room / "cup.tar.gz", self.folder / "cup.tar.gz"):
+            self.assertEqual(command.archive_path(self.plan, str(path)), path)
+        self.assertEqual(command.archive_path(self.plan, None), self.folder / "cup.tar.gz")
+        self.assertIn("among the files of the competition", str(raised(Refused, command.archive_path, self.plan, str(self.folder / "rules/cup.tar.gz"))))
+
 
 class Rounds(Made):
     def test_rounds_that_were_not_planned_are_told(self):

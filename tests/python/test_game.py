@@ -7,9 +7,11 @@ import subprocess
 import sys
 import time
 import unittest
+from unittest.mock import Mock
 
 import pytest
 
+from ggp_tools.competition.game import aborted_line
 from ggp_tools.descriptions.goals import goals_said
 from ggp_tools.descriptions.suspicious import suspicions
 from support import COMMAND, GAMES, InFolder, program, program_but, run, run_into_full
@@ -251,6 +253,11 @@ class Game(InFolder):
             "aborted with `nogoal ann`: 1, seed 1; after turn 2 of seed 1 the state is (step 3)", f"ann has 2 goals there: 0, by {second}; 100, by {first}",
         ])
         self.assertEqual(lines[6], "ann: goals none; most legal moves at once: 1")
+
+    def test_the_first_seeds_of_aborted_matches_are_listed(self):
+        for count, seeds in ((1, "seed 1"), (10, "seeds 1, 2, 3, 4, 5, 6, 7, 8, 9, 10"), (11, "seeds 1, 2, 3, 4, 5, 6, 7, 8, 9, 10, ..")):
+            ended = [Mock(seed=seed, turns=0, state=[]) for seed in range(1, count + 1)]
+            self.assertEqual(aborted_line("nogoal ann", ended), f"aborted with `nogoal ann`: {count}, {seeds}; after turn 0 of seed 1 the state is empty")
 
     def test_the_goals_of_a_state(self):
         goals = "(<= (goal ann ?x) (true (won ?x)))\n(goal bob 5) (goal (o 1) 5)"

@@ -554,6 +554,15 @@ class Pages(unittest.TestCase):
             self.assertEqual(len(self.server.readers), server.MOST_LONG)
         self.assertFalse(self.server.readers)
 
+    def test_a_body_may_take_a_second_more_for_each_mib(self):
+        with mock.patch.object(server, "REQUEST_SECONDS", 10 * SECONDS):
+            for address, size in ((2, 60_000), (3, 3 << 20)):
+                self.half(f"127.0.0.{address}", 1, size)
+            while sum(asked.most != server.LONGEST_HEAD for asked in list(self.server.requests.values())) < 2:
+                time.sleep(0.01)
+            seconds = sorted(round(asked.ends - asked.began) for asked in self.server.requests.values())
+        self.assertEqual(seconds, [10 * SECONDS, 10 * SECONDS + 3])
+
     def test_a_request_that_is_not_finished_is_ended(self):
         with mock.patch.object(server, "REQUEST_SECONDS", 0):
             self.assertEqual(self.half("127.0.0.1", 1).recv(100), b"")

@@ -306,6 +306,17 @@ class Lines(InRoom):
         look(reader)
         self.assertEqual([move.match.id[-1] for move, _ in reader.last_replaced()], list("642135"))
 
+    def test_without_a_log_replaced_moves_have_the_time_of_the_record(self):
+        for seconds, match in zip((3_000, 1_000, 2_000), self.plan.matches):
+            end(self.plan, match, record_of(match, [["noop", "noop"]], [["CE", ""]], [0, 100]))
+            self.plan.folder.log(match.id).write_text(opened(match, 0) + line(match, 0, 3, f"(STOP {match.id} NIL)", "done", 0, seconds * 1_000))
+        lacks = self.plan.matches[2]
+        self.plan.folder.log(lacks.id).unlink()
+        os.utime(self.plan.folder.record(lacks.id), (2_000, 2_000))
+        reader = self.reader()
+        look(reader)
+        self.assertEqual([move.match.id[-1] for move, _ in reader.last_replaced()], list("132"))
+
     def test_the_referee_is_asked_for_a_part_of_the_time(self):
         begin(self.plan, self.match, started(self.match))
         begin(self.plan, self.plan.matches[1], started(self.plan.matches[1]))

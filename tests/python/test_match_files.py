@@ -14,7 +14,7 @@ from unittest import mock
 
 from ggp_tools.competition import match_files
 from ggp_tools.competition.competition_file import Faults
-from ggp_tools.competition.files import UNFINISHED, Folder, Refused, file_bytes, held, write_whole
+from ggp_tools.competition.files import UNFINISHED, Folder, Refused, file_bytes, held, lock_place, sync, write_whole
 from ggp_tools.competition.match_files import (
     account_bytes, batches, check_records, checks, fault_of_files, free_ending, has_shape, keep, referee_faults, set_aside, unplanned_records,
     unverified_result,
@@ -428,6 +428,18 @@ class Files(InFolder):
         for read in (file_bytes, sum_of_file):
             why = raised(OSError, read, self.folder / "pipe")
             self.assertEqual((why.strerror, why.filename), ("it is not a regular file", str(self.folder / "pipe")))
+
+    def test_nothing_stays_open(self):
+        folder, pipe = self.folder, self.folder / "pipe"
+        os.mkfifo(pipe)
+        for path in (folder, pipe):
+            raised(OSError, file_bytes, path)
+        sync(folder)
+        lock_place(folder)
+        with held(folder):
+            raised(Refused, held(folder).__enter__)
+        still_open = {os.path.realpath(link) for link in pathlib.Path("/proc/self/fd").iterdir()}
+        self.assertEqual(still_open & {os.path.realpath(folder), os.path.realpath(pipe)}, set())
 
     def test_the_shape_that_a_result_needs(self):
         good = {"goalValues": [1, 2], "errors": [["", "x"]], "moves": []}

@@ -4,11 +4,12 @@ import json
 import unittest
 from dataclasses import replace
 
-from ggp_tools.competition.results import fault_of_record, forfeit_words, match_line, remarks, result_of, retirement_of, winner_words
+from ggp_tools.competition.results import fault_of_record, forfeit_words, lapse_of, match_line, remarks, result_of, retirement_of, winner_words
 from ggp_tools.competition.schedule import Match
+from ggp_tools.descriptions.loading import Rules
 from ggp_tools.match_log import event_of
 from ggp_tools.records.match_logs import Beginning, logged
-from live_support import line
+from live_support import RULES, line
 
 MATCH = Match("cup-001", "nim", 10, 5, ("ann", "bob"))
 RECORD = {
@@ -40,6 +41,14 @@ class Faults(unittest.TestCase):
         for phase in ("starting", "playing", "stopping", "aborting"):
             self.assertEqual(fault_of_record(record(phase=phase), MATCH, 2), f"its match is not over: {phase}")
 
+    def test_how_many_turns_and_which_goals_a_match_may_have(self):
+        goals = "one of its goals is not from 0 to 100"
+        for changed, said in (
+            ({"moves": [["a", "n"]] * 10_000}, None), ({"moves": [["a", "n"]] * 10_001}, "it has 10,001 turns, but a match can have at most 10,000"),
+            ({"goalValues": [0, 100]}, None), ({"goalValues": []}, None), ({"goalValues": [0, 101]}, goals), ({"goalValues": [-1, 0]}, goals),
+        ):
+            self.assertEqual(fault_of_record(record(**changed), MATCH, 2), said)
+
 
 class Results(unittest.TestCase):
     def test_errors_are_counted_by_role_and_kind(self):
@@ -61,6 +70,11 @@ class Results(unittest.TestCase):
             self.assertIsNone(retired(strikes, *errors))
         self.assertEqual(retired(255, *["TO"] * 256), "TO in turns 1 to 255")
 
+    def test_a_role_is_absent_if_it_had_turns_and_no_move_of_its_own(self):
+        for errors, absent in (([["TO", ""]] * 2, [True, False]), ([["TO", ""], ["", "TO"]], [False, False]), ([], [False, False])):
+            found = result_of(record(errors=errors, moves=[["a", "n"]] * len(errors)), MATCH)
+            self.assertEqual([found.is_absent(role) for role in (0, 1)], absent)
+
 
 LOGGED = logged([event_of(line(MATCH, role, 1, "(START cup-001 o ... 10 5)", "ready", 3 + role).encode()) for role in (0, 1)])
 
@@ -77,6 +91,25 @@ class Lines(unittest.TestCase):
         self.assertEqual(said["messages"][1], [["start", 4]])
         self.assertNotIn("forfeit", said)
         self.assertNotIn("counted", said)
+
+
+class Lapses(unittest.TestCase):
+    def lapse(self, most, *turns):
+        """Returns why red has lost a match. Each turn has its error, and the role that has a choice."""
+        errors = [["", error] for error, _ in turns]
+        states = [["(heap 3)", f"(turn {role})"] for _, role in (*turns, ("", "red"))]
+        data = json.dumps({"states": states, "strikes": 0}, separators=(",", ":")).encode()
+        found = lapse_of({"errors": errors}, data, Rules(RULES, "", ("blue", "red")), 1, most)
+        return found and found.words()
+
+    def test_only_turns_with_a_choice_count(self):
+        forced, slow, wrong, good = ("TO", "blue"), ("TO", "red"), ("IL (x y)", "red"), ("", "red")
+        for most, turns, words in (
+            (1, [good, slow], "TO in turn 2"), (2, [slow, wrong], "TO, IL in turns 1 to 2"), (2, [good, slow, good, good, wrong, slow], "TO, IL in 2 of turns 2 to 5"),
+            (2, [forced, slow, forced, forced, wrong], "TO, IL in 2 of turns 2 to 5"), (3, [slow, slow, slow], "TO in turns 1 to 3"),
+            (1, [forced, forced], None), (2, [forced, slow, good], None), (3, [slow, wrong, good], None), (1, [good], None),
+        ):
+            self.assertEqual(self.lapse(most, *turns), words, turns)
 
 
 class Forfeits(unittest.TestCase):

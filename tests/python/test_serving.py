@@ -279,6 +279,29 @@ class Pages(Served):
         self.assertNotIn("not read yet", self.page("/"))
         self.assertIn("6 of 6 matches are over.", self.page("/"))
 
+    def test_a_page_changes_although_the_matches_on_it_stay_the_same(self):
+        own, other = self.plan.matches[:2]
+        end(self.plan, own, record_of(own, [], [], [50, 50]))
+        self.look()
+        self.assertIn("Place 1 of 2 in all games", self.page("/players/player-ann.html"))
+        end(self.plan, other, record_of(other, [], [], [50, 50]))
+        self.look()
+        self.assertIn("Place 1 of 3 in all games", self.page("/players/player-ann.html"))
+
+    def test_ratings_are_shown_once_all_records_are_read_even_if_the_last_does_not_count(self):
+        good, bad = self.plan.matches[:2]
+        end(self.plan, good, record_of(good, [], [], [50, 50]))
+        end(self.plan, bad, record_of(bad, [], [], [101, 0]))
+        with patch.object(live, "READING", -1):
+            self.look()
+            self.site.reader.update_record(good.id)
+            self.look()
+            found = [self.page("/games/heap.html")]
+        self.look()
+        found.append(self.page("/games/heap.html"))
+        ratings = [{row[-1][0] for row in rows_of(parsed(page).find(id="standings"))[1:]} for page in found]
+        self.assertEqual(ratings, [{"n"}, {"0"}])
+
     def test_pages_of_results_are_made_without_their_files(self):
         for match in self.plan.matches[:2]:
             end(self.plan, match, record_of(match, [["(take 2)", "noop"]], [["", "TO"]], [50, 50]))
@@ -411,6 +434,23 @@ class Pages(Served):
         self.look()
         self.assertIn(f"ann was restarted 2 times, the last time, for {self.plan.matches[2].id}<", self.page("/"))
         self.assertNotIn("bob was restarted", self.page("/"))
+
+    def test_a_new_run_forgets_who_was_restarted_in_the_earlier_one(self):
+        players = tuple(dataclasses.replace(player, command=Mock(restart=WHEN_DEAD)) for player in self.plan.competition.players)
+        self.plan.competition = dataclasses.replace(self.plan.competition, players=players)
+        match, other = self.plan.matches[:2]
+        log = begin(self.plan, match, started(match))
+        self.site = self.server.site = LiveSite(self.plan, Referee(program()), lambda: self.plan)
+        # Ann plays, so her restart is not shown yet.
+        rows = [f"restart {other.id} {name}: process 7, port 8" for name in ("cid", "ann")]
+        self.write_journal(rows)
+        self.look()
+        self.assertIn(f"cid was restarted once, for {other.id}<", self.page("/"))
+        self.write_journal([*rows, "play 5 matches"])
+        self.look()
+        self.say(log, self.play(match, 2, "NIL", ["(take 1)", "noop"]))
+        self.look()
+        self.assertNotIn("was restarted", self.page("/"))
 
     def test_a_turn_that_was_broken_off_counts_as_open(self):
         """The match may begin again, and then the players do not know yet who was dead."""

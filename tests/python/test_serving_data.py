@@ -113,6 +113,11 @@ class Data(Served):
             found = [self.json(f"/api/matches{page}") for page in ("", "?page=2")]
             self.assertEqual([[row["id"] for row in said["matches"]] for said in found], [[match.id for match in part] for part in (self.plan.matches[:4], self.plan.matches[4:])])
             self.assertEqual([said["pages"] for said in found], [2, 2])
+        # The last page is full, so there is no page after it.
+        with patch.object(live_api, "MOST_LISTED", 3):
+            self.assertEqual([self.json(f"/api/matches?page={page}")["pages"] for page in (1, 2)], [2, 2])
+            self.assertEqual(self.ask("/api/matches?page=3")[0], 404)
+        with patch.object(live_api, "MOST_LISTED", 4):
             for match in self.plan.matches:
                 end(self.plan, match, record_of(match, [], [], [50, 50]))
             self.look()

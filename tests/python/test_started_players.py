@@ -366,6 +366,16 @@ def test_a_log_is_rotated(tmp_path, monkeypatch):
     assert (tmp_path / "ann.log").read_text() == "x"
 
 
+def test_the_last_lines_are_those_since_the_last_start_even_if_the_log_was_rotated(tmp_path, monkeypatch):
+    monkeypatch.setattr(started_players, "MOST_BYTES", 100)
+    log = PlayerLog(tmp_path / "ann.log")
+    log.write(b"old\n" * 20)
+    log.mark("start for cup-002")
+    assert log.last_lines() == []
+    log.write(b"new\n" * 20)
+    assert (log.last_lines(), (tmp_path / "ann.log.1").exists()) == (["new"] * 5, True)
+
+
 def test_a_player_that_floods_its_output_holds_nothing_up(tmp_path, monkeypatch):
     monkeypatch.setattr(started_players, "MOST_BYTES", 100_000)
 
@@ -507,15 +517,19 @@ class Started(InFolder):
         status, out, said = run(self.folder, "try", "competition.toml", "ann")
         self.assertEqual((status, out.partition(";")[0]), (1, "down try ann: it ended with status 2"), said)
 
-    def test_try_tells_a_player_the_rules_with_variables(self):
-        text = toml([("ann", "h:1"), ("bob", "h:2")], [("nim", GAMES / "general/nim.kif", 'player_rules = "variables"')], head=self.HEAD)
-        command = f'command = ["{TOP}/examples/players/player.py", "{{port}}", "1"]\nstart_seconds = 600'
+    @unittest.skipUnless(shutil.which("gringo"), "gringo is not installed")
+    def test_try_sends_the_rules_and_the_clocks_of_the_game(self):
+        # START fits into a line of the output.
+        rules = "(role a) (n 1) (n 2) (<= (legal a ?n) (n ?n)) (<= (next on) (does a ?n)) (<= terminal (true on)) (goal a 9)"
+        (self.folder / "say.kif").write_text(rules)
+        text = toml([("ann", "h:1"), ("bob", "h:2")], [("say", "say.kif", 'player_rules = "variables"', "start = 61", "play = 59")])
+        command = f'command = ["{TOP}/examples/players/interpreting.py", "{{port}}"]\nstart_seconds = 600'
         (self.folder / "competition.toml").write_text(text.replace('address = "h:1"', command))
-        shown = program_but(self.folder / "shown", '"$1" = check', 'for word; do case $word in --player-rules=*) cat "${word#*=}";; esac; done; exit 0')
-        status, out, said = run(self.folder, "try", ".", "ann", "--program", shown)
-        self.assertEqual((status, said, "(role first)" in out, " ?" in out), (0, "", True, True), out)
+        status, out, said = run(self.folder, "try", ".", "ann")
+        self.assertEqual((status, said), (0, ""), out)
+        self.assertRegex(out, r"\(START check-0 a \(\(role a\) .*\?.* 61 59\)\tready\t")
         why = "competition.toml: bob has no `command`; `ggp_manager check` tests a running player"
-        self.assertEqual(run(self.folder, "try", "competition.toml", "bob"), (2, "", f"ggp_competition: {why}\n"))
+        self.assertEqual(run(self.folder, "try", ".", "bob"), (2, "", f"ggp_competition: {why}\n"))
 
     def test_plan_names_the_players_that_run_as_the_same_user(self):
         self.planned()

@@ -6,14 +6,19 @@ import unittest
 from collections import Counter
 from dataclasses import replace
 
-from ggp_tools.competition.competition_file import read_competition
+from ggp_tools.competition.competition_file import Faults, read_competition
+from ggp_tools.competition.files import Folder, Refused
 from ggp_tools.competition.plan import Plan
 from ggp_tools.competition.ratings import Rating
 from ggp_tools.competition.results import Result, Retirement
 from ggp_tools.competition.rounds import Round
 from ggp_tools.competition.schedule import Match
 from ggp_tools.competition.table import Line, Table, tables_of
-from ggp_tools.competition.table_text import HEADS, crosstable_rows, csv_text, fields, notes, rating_text, standings_rows, table_files
+from ggp_tools.competition.table_text import (
+    HEADS, METHOD, crosstable_rows, csv_text, fields, forfeit_rule, in_order, joined, method_of, notes, rating_text, standings_rows, table_files, table_text,
+    without_record,
+)
+from ggp_tools.descriptions.loading import Rules
 from support import toml
 
 NAMES = ["ann", "bob", "cid", "dan"]
@@ -144,3 +149,100 @@ class Tables(unittest.TestCase):
         # The notes do not mention rounds.
         row = next(csv.DictReader(files["table.csv"].decode().splitlines()))
         self.assertEqual([row[key] for key in ("byes", "buchholz", "rounds_won")], ["0", "", ""])
+
+
+class Texts(unittest.TestCase):
+    TEXT = """cup: 2 of 3 matches
+
+all games
+
+   player                    matches   goals  won  drawn  lost  replaced  absent  retired  rating
+1  ann                             1  100.00    1      0     0    0 of 5       0        0    none
+2  cid                             1   50.00    0      1     0    1 of 5       0        0    none
+3  bob (no move of its own)        2   25.00    0      1     1  10 of 10       2        0    none
+
+points / matches
+   player    1      2      3
+1  ann       .      .    1/1
+2  cid       .      .  0.5/1
+3  bob     0/1  0.5/1      .
+* bob made no move of its own: all of its moves were replaced
+"""
+
+    def test_the_text_of_a_table(self):
+        results = [result(["ann", "bob"], [100, 0], [0, 5]), result(["bob", "cid"], [50, 50], [5, 1])]
+        plan = Plan(None, competition(), {}, [*(played.match for played in results), Match("m3", "two", 1, 1, ("ann", "bob"))])
+        self.assertEqual(table_text(plan, tables_of(competition(), results, is_rated=False)[:1]), f"{self.TEXT}\nRatings: {METHOD}.\n")
+
+    def test_how_ratings_are_shifted(self):
+        for head, said in (("", ""), ("anchor = {ann = 1500}", "; shifted so that ann has 1500"), ("anchor = {ann = 1500, bob = -3}", "; shifted so that ann has 1500 and bob has -3 on average")):
+            self.assertEqual(method_of(competition(head)), METHOD + said)
+
+    def test_who_loses_a_match_is_explained(self):
+        retired, replaced = "it was retired", "1,000 or more of its moves were replaced (forced moves do not count)"
+        lapses = "[faults]\nreplaced = 1000"
+        for head, said in (("forfeit = true", retired), (lapses, replaced), (f"forfeit = true\n{lapses}", f"{retired}, or if {replaced}")):
+            self.assertTrue(forfeit_rule(competition(head)).startswith(f"A player loses a match if {said}. It then gets 0."))
+        self.assertEqual(forfeit_rule(competition()), "")
+
+    def test_the_group_of_a_rating_is_told_if_there_are_several(self):
+        for groups, said in (((1, 1), "7 +- 2"), ((1, 2), "7 +- 2 in 1"), ((1, None), "7 +- 2")):
+            lines = {name: Line(name, matches=1, rating=Rating(7, 2, group)) for name, group in zip(NAMES, groups)}
+            self.assertEqual(rating_text(Table("two", lines), lines["ann"]), said)
+
+    def test_which_notes_there_are(self):
+        rounds = [Round(1, (("ann", "bob"),), ("cid",)), Round(2, (("cid", "ann"),), ())]
+        lines = {"ann": Line("ann", matches=2, absent=1), "bob": Line("bob", matches=1), "cid": Line("cid", byes=1), "dan": Line("dan", matches=1, absent=1)}
+        said = ["round 1; bye: cid", "ann made no move of its own in 1 of its 2 matches", "dan made no move of its own: all of its moves were replaced"]
+        table = Table("two", lines, rounds=rounds)
+        self.assertEqual(sorted(notes(table)), sorted(said))
+        self.assertEqual([row[1] for row in standings_rows(table)], ["player", "ann", "bob", "cid", "dan (no move of its own)"])
+
+    def test_results_are_in_the_order_of_the_schedule(self):
+        matches = [Match(f"m{at}", "two", 1, 1, ("ann", "bob"), withdrawn="gone" * (at == 3)) for at in range(4)]
+        results = {match.id: replace(result(["ann", "bob"], [0, 0]), match=replace(match, reason="old")) for match in (matches[2], matches[0])}
+        plan = Plan(None, competition(), {}, matches)
+        self.assertEqual([played.match for played in in_order(plan, results)], [matches[0], matches[2]])
+        self.assertEqual(without_record(plan, results.values()), [matches[1]])
+
+
+class Joined(unittest.TestCase):
+    def plan(self, name, players, games, head="", form='kind = "round_robin"', digest="1"):
+        """Returns the plan of a competition without matches. Its rules have this checksum."""
+        text = toml([(player, f"h:{at}", *more) for at, (player, *more) in enumerate(players, 1)], [(game, "f") for game in games], form, head)
+        found = read_competition(text.replace('"cup"', f'"{name}"').encode())
+        return Plan(Folder(name), found, {game: Rules(b"(role a)", digest, ("a",)) for game in games}, [Match(f"{name}-001", games[0], 1, 1, ("ann",))])
+
+    def test_one_table_has_the_players_and_games_of_all_and_the_anchors_of_the_first(self):
+        first = self.plan("cup", [("ann",), ("bob", "withdrawn = true")], ["two"], "anchor = {ann = 1500, bob = 1000}")
+        second = self.plan("last", [("cid",), ("bob",), ("ann",)], ["one", "two"], "anchor = {ann = 1600, cid = 900}")
+        found = joined([first, second])
+        self.assertEqual(joined([first]), first)
+        self.assertEqual((found.competition.name, [match.id for match in found.matches]), ("cup + last", ["cup-001", "last-001"]))
+        self.assertEqual(found.competition.anchor, {"ann": 1500, "bob": 1000, "cid": 900})
+        self.assertEqual([player.name for player in found.competition.players], ["ann", "bob", "cid"])
+        self.assertEqual(([game.name for game in found.competition.games], [*found.rules]), (["two", "one"], ["two", "one"]))
+        self.assertEqual(found.competition.withdrawn(), {})
+
+    def test_rules_that_differ_are_not_those_of_the_table(self):
+        forfeit, lapse, points, swiss = "forfeit = true", "[faults]\nreplaced = 3", 'order = "points"', {"form": 'kind = "swiss"\nrounds = 1\nfinal = 2'}
+        for heads, forms, rules in (
+            ((forfeit, forfeit), ({}, {}), (True, Faults(0), "goals")), ((forfeit, ""), ({}, {}), (False, Faults(0), "goals")),
+            ((lapse, lapse), ({}, {}), (False, Faults(3), "goals")), ((lapse, ""), ({}, {}), (False, Faults(0), "goals")),
+            ((points, ""), ({}, {}), (False, Faults(0), "points")), (("", points), ({}, {}), (False, Faults(0), "goals")),
+            (("", ""), ({}, swiss), (False, Faults(0), "points")), (("", ""), (swiss, {}), (False, Faults(0), "points")),
+        ):
+            plans = [self.plan(name, [("ann",), ("bob",)], ["two"], head, **form) for name, head, form in zip(("cup", "last"), heads, forms)]
+            found = joined(plans).competition
+            self.assertEqual((found.forfeit, found.faults, found.order), rules, (heads, forms))
+            self.assertEqual((found.form.kind, found.form.final), ("round_robin", 0))
+
+    def test_which_competitions_have_no_table_together(self):
+        first = self.plan("cup", [("ann",)], ["two"])
+        for other, said in (
+            (self.plan("cup", [("bob",)], ["two"]), "two of the directories have a competition named cup; a joint table needs different names"),
+            (self.plan("last", [("bob",)], ["one", "two"], digest="2"), "the rules of two in last differ from those in an earlier directory"),
+        ):
+            with self.assertRaises(Refused) as caught:
+                joined([first, other])
+            self.assertEqual(str(caught.exception), said)

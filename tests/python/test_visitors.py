@@ -83,6 +83,12 @@ class Limits(Served):
                 taken = sum(map(len, iter(lambda: slow.recv(1 << 20), b"")))
             self.assertLess(taken, 64 << 20)
 
+    def test_the_kernel_ends_a_connection_to_a_computer_that_is_gone(self):
+        self.hold(1, is_idle=True)
+        (connection,) = self.visitors.connections
+        milliseconds = connection.transport.get_extra_info("socket").getsockopt(socket.IPPROTO_TCP, socket.TCP_USER_TIMEOUT)
+        self.assertEqual(milliseconds, http_server.PATIENCE * 1_000)
+
     def pieces_taken(self, seconds):
         """Returns the number of pieces of an answer that are sent to a visitor that needs this many seconds for each, by the clock of the event
         loop."""
