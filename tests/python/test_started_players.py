@@ -249,7 +249,7 @@ async def take(data):
     print(data.decode(), end="", flush=True)
 
 async def play():
-    job = Job(take, print, "player")
+    job = Job(take, take, "player")
     limits = {"memory": 0, "processors": 0, "number": 0}
     words = ["sh", "-c", "setsid sleep 600 & echo $!; (setsid env -i sleep 600 & echo $!); echo $$; exec sleep 600"]
     job.start([], {"words": words, "player": {"host": "", "port": 0, "environment": {}, "directory": "/", **limits}})
@@ -315,6 +315,13 @@ def test_a_launcher_that_fails_is_reported(tmp_path):
     ann = launched(tmp_path, "exec sleep 600", "echo 'srun: no such partition' >&2; exit 1")
     assert run_for(ann, "cup-001") == [None]
     assert ann.reporter.lines == [f"down cup-001 ann: it can't be started; the end of {ann.log.path}:", "down cup-001 ann: | srun: no such partition"]
+
+
+@pytest.mark.parametrize("words", ["", "1", "1 here", "1 here:", "1 here:0", "1 here:99999", "one here:1", "1 two words:1", "1 -:\\x:1"])
+def test_a_launcher_that_reports_a_wrong_address_is_reported(tmp_path, words):
+    ann = launched(tmp_path, "exec sleep 600", f"echo 'ggp_competition: player {words}' >&2; exec cat")
+    assert run_for(ann, "cup-001") == [None]
+    assert ann.reporter.lines == [f"down cup-001 ann: it sent {words!r} instead of the player's process and address; it wrote nothing to {ann.log.path}"]
 
 
 def test_a_launched_player_whose_node_is_lost_is_reported(tmp_path, monkeypatch):

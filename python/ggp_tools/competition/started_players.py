@@ -26,8 +26,8 @@ END_SECONDS = 15
 FIRST_PAUSE, LONGEST_PAUSE = 0.05, 1.0
 # A larger log is renamed, and replaces the one that was renamed before.
 MOST_BYTES = 1 << 20
-# If this many bytes come at once, the next ones are read after a pause, so that a player cannot slow down matches.
-CHUNK, CHUNK_PAUSE = 1 << 16, 0.02
+# If this many bytes come at once, the next ones are read after a pause, so that a player cannot slow down matches. At most twice as many come at once.
+CHUNK, CHUNK_PAUSE = 1 << 15, 0.02
 # If a player does not start, at most this many of its last lines are reported.
 LAST_LINES = 5
 
@@ -130,7 +130,7 @@ class StartedPlayer:
     async def came_up(self) -> str:
         """Starts the process, and waits until it answers INFO. Returns why it does not, or an empty text."""
         command, launcher = self.command, launcher_of(self.folder, self.name, self.command)
-        job = Job(self.log.take, lambda line: self.log.write(line + b"\n"), "player", END_SECONDS)
+        job = Job(self.log.take, self.log.take, "player", END_SECONDS)
         self.job = job
         job.start(launcher, {"words": [program_of(self.folder, self.command.words[0]), *command.words[1:]], "player": {
             "host": None if launcher else HERE, "port": self.port, "environment": dict(command.environment),
