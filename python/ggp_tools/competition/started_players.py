@@ -6,8 +6,9 @@ import os
 import pathlib
 import shutil
 import time
-from collections.abc import Iterator
+from collections.abc import Callable, Iterator
 
+from ggp_tools.competition.addresses import are_same
 from ggp_tools.competition.children import run
 from ggp_tools.competition.competition_file import EACH_MATCH, NEVER, Command, Competition, Mistake, Player
 from ggp_tools.competition.files import Folder, file_bytes, new_file
@@ -81,6 +82,8 @@ class StartedPlayer:
         self.watching: asyncio.Task | None = None
         # Why it is not running, and is not started again.
         self.over = ""
+        # The addresses of other players that a launcher must not report, by name.
+        self.known: Callable[[], dict[str, str]] = dict
 
     def place(self) -> str:
         return f"{self.name}@{self.address}"
@@ -139,6 +142,9 @@ class StartedPlayer:
         if await job.came_up():
             self.address, until, pause = job.player.split()[-1], time.monotonic() + command.start_seconds, FIRST_PAUSE
             self.port = int(self.address.rpartition(":")[2])
+            # A launcher runs on a computer that may be hostile, and must not direct the messages to another player.
+            if launcher and (other := await asyncio.to_thread(self.other_there)):
+                return f"it reported the address of {other}, {self.address}"
             while not job.running.done() and (left := until - time.monotonic()) > 0:
                 if (await run(self.referee.info_words(self.place()), seconds=left)).status == 0 and job.status is None and not job.running.done():
                     return ""
@@ -149,6 +155,10 @@ class StartedPlayer:
             return words_of_end(job)
         more = " or more `memory`" if command.memory else ""
         return f"it did not answer INFO within {command.start_seconds} s; it may need more `start_seconds`{more}"
+
+    def other_there(self) -> str:
+        """Returns the name of another player that is known to be at this player's address, or an empty text."""
+        return next((name for name, address in self.known().items() if are_same(self.address, address)), "")
 
     async def watch(self, job: Job) -> None:
         """Waits until the player ends by itself, and reports that for each match that it is playing, or once between matches."""
@@ -185,6 +195,8 @@ class StartedPlayers:
         self.addresses: dict[str, str] = {}
         players = [player for player in competition.players if player.command]
         self.players = {player.name: StartedPlayer(folder, player, number, referee, reporter) for number, player in enumerate(players)}
+        for player in self.players.values():
+            player.known = self.known
 
     def of(self, names: tuple[str, ...]) -> list[StartedPlayer]:
         return [self.players[name] for name in names if name in self.players]
@@ -193,6 +205,11 @@ class StartedPlayers:
         if name in self.players:
             return self.players[name].place()
         return self.addresses.get(name) or self.competition.player(name).place()
+
+    def known(self) -> dict[str, str]:
+        """Returns the addresses of the players, by name, except those that launchers reported."""
+        started = {name: player.address for name, player in self.players.items() if player.is_running() and not player.command.launcher}
+        return {player.name: player.address for player in self.competition.players if not player.command} | started
 
     async def ready(self, match: str, names: tuple[str, ...]) -> None:
         async with asyncio.TaskGroup() as group:
