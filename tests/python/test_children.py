@@ -20,11 +20,15 @@ class Kept(Job):
     """A job that records its output and its reports."""
 
     def __init__(self):
-        super().__init__(self.keep, lambda line: self.lines.append(line))
-        self.output, self.lines = b"", []
+        super().__init__(self.keep, self.keep_lines)
+        self.output, self.lines, self.calls = b"", [], 0
 
     async def keep(self, data):
         self.output += data
+
+    async def keep_lines(self, data):
+        self.lines += data.splitlines()
+        self.calls += 1
 
 
 async def begun(script, job=None):
@@ -78,17 +82,20 @@ def test_a_line_without_an_end_ends_the_job(monkeypatch):
     assert (job.why, job.lines) == ("it sent a line of more than 100,000 bytes", [])
 
 
+def test_many_short_lines_are_passed_on_together():
+    job = ran("import os\nfor _ in range(16): os.write(2, b'\\n' * 65_536)")
+    # A pipe passes on at least a page at a time.
+    assert (len(job.lines), job.calls < 1_000) == (1 << 20, True)
+
+
 @pytest.mark.parametrize("stream", ["stdout", "stderr"])
 def test_a_job_is_ended_when_it_is_given_up(stream):
     job = Kept()
 
-    def give_up(data):
+    async def give_up(data):
         raise Lost("it is enough")
 
-    async def give_up_later(data):
-        give_up(data)
-
-    job.take_output, job.take_line = give_up_later, give_up
+    job.take_output = job.take_lines = give_up
     ran(f"import sys\nwhile True: sys.{stream}.write('x' * 999 + '\\n')", job)
     assert (job.why, job.process.returncode is None) == ("it is enough", False)
 
@@ -96,10 +103,10 @@ def test_a_job_is_ended_when_it_is_given_up(stream):
 def test_the_error_of_a_file_is_raised():
     job = Kept()
 
-    def fail(line):
+    async def fail(data):
         raise OSError(28, "full")
 
-    job.take_line = fail
+    job.take_lines = fail
     with pytest.raises(ExceptionGroup, match="unhandled errors"):
         ran("import sys; print('one', file=sys.stderr)", job)
 

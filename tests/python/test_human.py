@@ -1,6 +1,7 @@
 """`ggp-human`: its answers to the referee, and the data of its page."""
 
 import contextlib
+import functools
 import http.client
 import io
 import itertools
@@ -581,6 +582,40 @@ class Pages(unittest.TestCase):
         self.seat.page_opens(1)
         self.assertEqual(self.post("(INFO)".ljust(33_554_432)), b"available")
         self.assertEqual(self.request("POST", "/", headers={"Content-Length": "33554433"}).status, 400)
+
+    def test_messages_that_waited_to_be_accepted_are_taken_in_their_order(self):
+        self.post("INFO")
+        self.server.shutdown()
+        taken, read, body = [], threading.Semaphore(0), server.Handler.body
+
+        def read_late(handler, most):
+            """The first message is read after the others."""
+            data = body(handler, most)
+            if data == b"0":
+                for _ in range(3):
+                    read.acquire(timeout=SECONDS)
+                time.sleep(0.2)
+            read.release()
+            return data
+
+        self.seat.answer = lambda text, *_: taken.append(text) or text
+        lines = [socket.create_connection(self.server.server_address[:2], SECONDS) for _ in range(4)]
+        for number, line in enumerate(lines):
+            self.addCleanup(line.close)
+            line.sendall(b"POST / HTTP/1.0\r\nContent-Length: 1\r\n\r\n%d" % number)
+        with mock.patch.object(server.Handler, "body", read_late), mock.patch.object(server, "REQUEST_SECONDS", SECONDS):
+            threading.Thread(target=self.server.serve_forever, args=(0.01,), daemon=True).start()
+            self.assertEqual([b"".join(iter(functools.partial(line.recv, 1_000), b""))[-1:] for line in lines], [b"0", b"1", b"2", b"3"])
+        self.assertEqual(taken, ["0", "1", "2", "3"])
+
+    def test_a_connection_that_has_sent_nothing_delays_no_message(self):
+        self.post("INFO")
+        waits = mock.patch.object(server.Request, "wait_for_turn", autospec=True)
+        with mock.patch.object(server, "REQUEST_SECONDS", SECONDS), socket.create_connection(self.server.server_address[:2]), waits as waited:
+            self.post("INFO")
+            (idle,) = [asked for asked in list(self.server.requests.values()) if asked.is_idle]
+        (call,) = waited.mock_calls
+        self.assertIsNot(call.args[0].before, idle.is_taken)
 
     def test_bytes_beyond_ascii_come_back_as_they_came(self):
         self.seat.page_opens(1)

@@ -452,6 +452,16 @@ class Pages(Served):
         self.look()
         self.assertNotIn("was restarted", self.page("/"))
 
+    def test_a_restart_for_a_match_of_a_plan_that_is_not_known_is_not_shown(self):
+        """The player may have died in an open turn of another match of this plan."""
+        players = tuple(dataclasses.replace(player, command=Mock(restart=WHEN_DEAD)) for player in self.plan.competition.players)
+        self.plan.competition = dataclasses.replace(self.plan.competition, players=players)
+        self.write_journal(["restart cup-099 ann: process 7, port 8", f"restart {self.plan.matches[0].id} bob: process 7, port 8"])
+        self.site = self.server.site = LiveSite(self.plan, Referee(program()), lambda: self.plan)
+        self.look()
+        self.assertIn("bob was restarted once", self.page("/"))
+        self.assertNotIn("ann was restarted", self.page("/"))
+
     def test_a_turn_that_was_broken_off_counts_as_open(self):
         """The match may begin again, and then the players do not know yet who was dead."""
         match, other = self.plan.matches[:2]

@@ -249,7 +249,7 @@ async def take(data):
     print(data.decode(), end="", flush=True)
 
 async def play():
-    job = Job(take, print, "player")
+    job = Job(take, take, "player")
     limits = {"memory": 0, "processors": 0, "number": 0}
     words = ["sh", "-c", "setsid sleep 600 & echo $!; (setsid env -i sleep 600 & echo $!); echo $$; exec sleep 600"]
     job.start([], {"words": words, "player": {"host": "", "port": 0, "environment": {}, "directory": "/", **limits}})
@@ -315,6 +315,25 @@ def test_a_launcher_that_fails_is_reported(tmp_path):
     ann = launched(tmp_path, "exec sleep 600", "echo 'srun: no such partition' >&2; exit 1")
     assert run_for(ann, "cup-001") == [None]
     assert ann.reporter.lines == [f"down cup-001 ann: it can't be started; the end of {ann.log.path}:", "down cup-001 ann: | srun: no such partition"]
+
+
+@pytest.mark.parametrize("words", ["", "1", "1 here", "1 here:", "1 here:0", "1 here:99999", "one here:1", "1 two words:1", "1 -:\\x:1"])
+def test_a_launcher_that_reports_a_wrong_address_is_reported(tmp_path, words):
+    ann = launched(tmp_path, "exec sleep 600", f"echo 'ggp_competition: player {words}' >&2; exec cat")
+    assert run_for(ann, "cup-001") == [None]
+    assert ann.reporter.lines == [f"down cup-001 ann: it sent {words!r} instead of the player's process and address; it wrote nothing to {ann.log.path}"]
+
+
+def test_a_launcher_may_not_report_the_address_of_another_player(tmp_path):
+    """Neither that of a player with an address, nor that of a player that runs here."""
+    address = "localhost:9150"
+    ann = launched(tmp_path, "exec sleep 600", "echo 'ggp_competition: player 1 127.0.0.1:9150' >&2; exec cat")
+    players = [Player("bob", address, 1, 1, None), Player("cid", "", 1, 1, command("")), Player("ann", "", 1, 1, ann.command)]
+    started = StartedPlayers(ann.folder, types.SimpleNamespace(players=players), ann.referee, ann.reporter)
+    assert run_for(started.players["ann"], "cup-001") == [None]
+    assert ann.reporter.lines[0].startswith("down cup-001 ann: it reported the address of bob, 127.0.0.1:9150; ")
+    started.players["cid"].job, started.players["cid"].address = types.SimpleNamespace(running=asyncio.Future(loop=asyncio.new_event_loop())), "127.0.0.1:9150"
+    assert started.known() == {"bob": address, "cid": "127.0.0.1:9150"}
 
 
 def test_a_launched_player_whose_node_is_lost_is_reported(tmp_path, monkeypatch):

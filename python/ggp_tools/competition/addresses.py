@@ -50,6 +50,15 @@ def looked_up(hosts: Iterable[str]) -> dict[str, list[str]]:
     return dict(addresses)
 
 
+def are_same(one: str, other: str) -> bool:
+    """Returns whether two texts HOST:PORT have an address in common now. The hosts are looked up only if the ports are the same."""
+    (host, _, port), (other_host, _, other_port) = one.rpartition(":"), other.rpartition(":")
+    if int(port) != int(other_port):
+        return False
+    addresses = looked_up({host, other_host})
+    return not set(addresses[host]).isdisjoint(addresses[other_host])
+
+
 def refusal(place: Place) -> str:
     """Returns why the system refuses connections to an address, or an empty text. Nothing is sent."""
     address = ipaddress.ip_address(place[0])

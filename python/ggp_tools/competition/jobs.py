@@ -8,11 +8,13 @@ import sys
 from collections.abc import Awaitable, Callable, Sequence
 
 from ggp_tools.competition.children import MOST_AT_ONCE, started
+from ggp_tools.competition.competition_file import is_address
 from ggp_tools.competition.job import BEAT, OURS
 from ggp_tools.match_log import LONGEST_LINE
 from ggp_tools.printable import printable
 
 SILENT, LONG = "nothing was heard from it for {:.0f} s", "it sent a line of more than {:,} bytes"
+NO_PLAYER = "it sent {!r} instead of the player's process and address"
 # After a job has ended, its output is read for at most this many seconds, because a process that the job left behind may keep the pipe open.
 MOST_UNREAD = 2
 # A job has END_SECONDS to end its processes. It counts as lost if it sends nothing for LOST_SECONDS.
@@ -22,6 +24,7 @@ END_SECONDS, LOST_SECONDS = 3, 10
 SILENCE, HERE_SILENCE = 20, 10**9
 # The maximum length of the name of a node, and of a process with its address.
 MOST_OF_NAME = 300
+PROCESS = re.compile("[0-9]{1,10}")
 JOB = pathlib.Path(__file__).with_name("job.py").absolute()
 
 
@@ -29,14 +32,21 @@ class Lost(Exception):
     """Why a job was given up."""
 
 
+def is_player(text: str) -> bool:
+    """Returns whether a text is the process of a player and its address."""
+    process, _, address = text.partition(" ")
+    return bool(PROCESS.fullmatch(process)) and is_address(address)
+
+
 class Job:
-    """A run of `job.py` by a launcher on another computer, or on this one without a launcher. `take_output` gets its standard output, and `take_line`
-    each line of standard error that it passes on. The job is up when it has sent the line that begins with the word `up`."""
+    """A run of `job.py` by a launcher on another computer, or on this one without a launcher. `take_output` gets its standard output, and `take_lines`
+    the lines of standard error that it passes on, several at a time. The job is up when it has sent the line that begins with the word `up`. The
+    computer on which it runs may be hostile."""
 
     def __init__(
-        self, take_output: Callable[[bytes], Awaitable[None]], take_line: Callable[[bytes], None], up: str = "node", end_seconds: float = END_SECONDS
+        self, take_output: Callable[[bytes], Awaitable[None]], take_lines: Callable[[bytes], Awaitable[None]], up: str = "node", end_seconds: float = END_SECONDS
     ) -> None:
-        self.take_output, self.take_line, self.up, self.end_seconds = take_output, take_line, up, end_seconds
+        self.take_output, self.take_lines, self.up, self.end_seconds = take_output, take_lines, up, end_seconds
         self.is_up, self.process, self.is_remote = asyncio.Event(), None, False
         # What the job reports: the node, the process and the address of a player, and the exit status. Then the reason why the job was given up.
         self.node, self.player, self.status, self.why = "", "", None, ""
@@ -101,8 +111,7 @@ class Job:
             async with asyncio.timeout(None) as silence:
                 while data := await self.process.stderr.read(MOST_AT_ONCE):
                     *lines, rest = (rest + data).split(b"\n")
-                    for line in lines:
-                        self.take(line)
+                    await self.take(lines)
                     if len(rest) > LONGEST_LINE:
                         raise Lost(LONG.format(LONGEST_LINE))
                     if self.node and self.is_remote:
@@ -110,14 +119,21 @@ class Job:
         except TimeoutError:
             raise Lost(SILENT.format(LOST_SECONDS)) from None
         if rest:
-            self.take(rest)
+            await self.take([rest])
 
-    def take(self, line: bytes) -> None:
-        """Handles a line of standard error. The job's own first line is the node, and its last line is the status."""
-        if not line.startswith(OURS):
-            self.take_line(line)
-            return
+    async def take(self, lines: list[bytes]) -> None:
+        """Handles lines of standard error: first those of the job itself, then all others together, because there may be very many."""
+        for line in lines:
+            if line.startswith(OURS):
+                self.take_own(line)
+        if others := [line + b"\n" for line in lines if not line.startswith(OURS)]:
+            await self.take_lines(b"".join(others))
+
+    def take_own(self, line: bytes) -> None:
+        """Handles a line of the job itself. The first line is the node, and the last line is the status."""
         word, _, rest = line.removeprefix(OURS).decode("ascii", "replace").partition(" ")
+        if word == "player" and not is_player(rest):
+            raise Lost(NO_PLAYER.format(printable(rest, MOST_OF_NAME)))
         if word in ("node", "player") and not getattr(self, word):
             setattr(self, word, printable(rest)[:MOST_OF_NAME])
         elif word == "status" and re.fullmatch("-?[0-9]{1,3}", rest):

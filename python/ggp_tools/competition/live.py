@@ -457,7 +457,8 @@ class Reader:
             self.restarted.clear()
             self.news.clear()
             self.version += 1
-        elif restarted and restarted[2] in self.restarting:
+        elif restarted and restarted[2] in self.restarting and restarted[1] in self.known:
+            # If the match is unknown, because the plan can't be read, the player may have died in an open turn of another unknown match.
             self.show_later([restarted[2]], functools.partial(self.count_restart, restarted[2], restarted[1]))
         elif given_up and (match := self.known.get(given_up[1])):
             reason = for_visitors(self.plan.folder, given_up[2])

@@ -212,7 +212,7 @@ class MatchJob(Job):
     """A job that plays a match on a node. The job may not send more than a referee can write about the match."""
 
     def __init__(self, open_match: OpenMatch) -> None:
-        super().__init__(self.take_output, self.take_line)
+        super().__init__(self.take_output, self.take_lines)
         self.match = open_match
         record, roles = longest_record(open_match.plan.rules[open_match.match.game].text), len(open_match.match.players)
         # Each player is sent all moves, and a byte of an answer may take six bytes in the log.
@@ -227,6 +227,10 @@ class MatchJob(Job):
     async def take_output(self, data: bytes) -> None:
         self.count(len(data))
         self.output.write(data)
+
+    async def take_lines(self, data: bytes) -> None:
+        for line in data.split(b"\n")[:-1]:
+            self.take_line(line)
 
     def take_line(self, line: bytes) -> None:
         """Takes a line of standard error: an event of the log, or a message of the launcher or the referee."""

@@ -6,8 +6,9 @@ import os
 import pathlib
 import shutil
 import time
-from collections.abc import Iterator
+from collections.abc import Callable, Iterator
 
+from ggp_tools.competition.addresses import are_same
 from ggp_tools.competition.children import run
 from ggp_tools.competition.competition_file import EACH_MATCH, NEVER, Command, Competition, Mistake, Player
 from ggp_tools.competition.files import Folder, file_bytes, new_file
@@ -26,8 +27,8 @@ END_SECONDS = 15
 FIRST_PAUSE, LONGEST_PAUSE = 0.05, 1.0
 # A larger log is renamed, and replaces the one that was renamed before.
 MOST_BYTES = 1 << 20
-# After this many bytes at once, there is a pause before the next ones are read, so that a player cannot slow down matches.
-CHUNK, CHUNK_PAUSE = 1 << 16, 0.02
+# If this many bytes come at once, the next ones are read after a pause, so that a player cannot slow down matches. At most twice as many come at once.
+CHUNK, CHUNK_PAUSE = 1 << 15, 0.02
 # If a player does not start, at most this many of its last lines are reported.
 LAST_LINES = 5
 
@@ -81,6 +82,8 @@ class StartedPlayer:
         self.watching: asyncio.Task | None = None
         # The reason why the player is not running and is not started again.
         self.over = ""
+        # The addresses of other players that a launcher must not report, by name.
+        self.known: Callable[[], dict[str, str]] = dict
 
     def place(self) -> str:
         return f"{self.name}@{self.address}"
@@ -130,7 +133,7 @@ class StartedPlayer:
     async def came_up(self) -> str:
         """Starts the process, and waits until it answers INFO. Returns the reason if it does not, or an empty text."""
         command, launcher = self.command, launcher_of(self.folder, self.name, self.command)
-        job = Job(self.log.take, lambda line: self.log.write(line + b"\n"), "player", END_SECONDS)
+        job = Job(self.log.take, self.log.take, "player", END_SECONDS)
         self.job = job
         job.start(launcher, {"words": [program_of(self.folder, self.command.words[0]), *command.words[1:]], "player": {
             "host": None if launcher else HERE, "port": self.port, "environment": dict(command.environment),
@@ -139,6 +142,9 @@ class StartedPlayer:
         if await job.came_up():
             self.address, until, pause = job.player.split()[-1], time.monotonic() + command.start_seconds, FIRST_PAUSE
             self.port = int(self.address.rpartition(":")[2])
+            # A launcher runs on a computer that may be hostile, and must not direct the messages to another player.
+            if launcher and (other := await asyncio.to_thread(self.other_there)):
+                return f"it reported the address of {other}, {self.address}"
             while not job.running.done() and (left := until - time.monotonic()) > 0:
                 if (await run(self.referee.info_words(self.place()), seconds=left)).status == 0 and job.status is None and not job.running.done():
                     return ""
@@ -149,6 +155,10 @@ class StartedPlayer:
             return words_of_end(job)
         more = " or more `memory`" if command.memory else ""
         return f"it did not answer INFO within {command.start_seconds} s; it may need more `start_seconds`{more}"
+
+    def other_there(self) -> str:
+        """Returns the name of another player that is known to be at this player's address, or an empty text."""
+        return next((name for name, address in self.known().items() if are_same(self.address, address)), "")
 
     async def watch(self, job: Job) -> None:
         """Waits until the player ends by itself. Reports the end for each match that it is playing, or once if there is none."""
@@ -185,6 +195,8 @@ class StartedPlayers:
         self.addresses: dict[str, str] = {}
         players = [player for player in competition.players if player.command]
         self.players = {player.name: StartedPlayer(folder, player, number, referee, reporter) for number, player in enumerate(players)}
+        for player in self.players.values():
+            player.known = self.known
 
     def of(self, names: tuple[str, ...]) -> list[StartedPlayer]:
         return [self.players[name] for name in names if name in self.players]
@@ -193,6 +205,11 @@ class StartedPlayers:
         if name in self.players:
             return self.players[name].place()
         return self.addresses.get(name) or self.competition.player(name).place()
+
+    def known(self) -> dict[str, str]:
+        """Returns the addresses of the players, by name, except those that launchers reported."""
+        started = {name: player.address for name, player in self.players.items() if player.is_running() and not player.command.launcher}
+        return {player.name: player.address for player in self.competition.players if not player.command} | started
 
     async def ready(self, match: str, names: tuple[str, ...]) -> None:
         async with asyncio.TaskGroup() as group:

@@ -5,7 +5,7 @@ import re
 import sys
 import threading
 import time
-from collections.abc import Iterable
+from collections.abc import Callable, Iterable
 
 from ggp_tools.holding.game import Game
 from ggp_tools.human.game import Shown
@@ -106,20 +106,21 @@ class Seat:
 
     # ---- the referee's messages
 
-    def answer(self, text: str, receiver: str = "", sender: str = "") -> str | None:
-        """Answers a message to a receiver. Returns None if the person made no move in time, or if a later message came."""
+    def answer(self, text: str, receiver: str = "", sender: str = "", is_taken: Callable[[], None] = lambda: None) -> str | None:
+        """Answers a message to a receiver. Returns None if the person made no move in time, or if a later message came. Calls `is_taken` before it
+        waits for the person: then the next message may be taken."""
         keyword, match = head_of(text)
         if (match, sender) in self.left or not self.is_referee(sender, keyword):
             return "busy"
         if keyword == "info":
             return "available" if self.is_free() and self.is_person_there() else "busy"
         if keyword == "start" and self.may_start(match, receiver):
-            return self.start(match, receiver, text)
+            return self.start(match, receiver, text, is_taken)
         if not self.is_own(match, receiver) or len(text) > MOST_MESSAGE:
             return "busy"
         match keyword, members_of(text):
             case "play", (moves,):
-                return self.play(moves)
+                return self.play(moves, is_taken)
             case "stop", (moves,):
                 return self.stop(moves)
             case "abort", ():
@@ -169,7 +170,7 @@ class Seat:
             self.changed.notify_all()
             return self.asked
 
-    def start(self, match: str, receiver: str, text: str) -> str:
+    def start(self, match: str, receiver: str, text: str, is_taken: Callable[[], None]) -> str:
         """Begins a match, and waits until a page is open. While another START is being read, answers `busy`."""
         began, reading = time.monotonic(), self.reading
         if not reading.acquire(blocking=False):
@@ -180,6 +181,7 @@ class Seat:
             asked = self.begin(match, receiver, *members) if len(members) == 4 and self.may_start(match, receiver) else None
         finally:
             reading.release()
+        is_taken()
         if asked is None:
             return "busy"
         left = began + clock_of(members[2]) - SPARE - time.monotonic()
@@ -212,15 +214,14 @@ class Seat:
                 self.match = ""
                 self.say(phase="waiting", note=note)
 
-    def play(self, moves: object) -> str | None:
+    def play(self, moves: object, is_taken: Callable[[], None]) -> str | None:
         """Shows the state and waits for the person's move. While a page is open, a single legal move is made without asking."""
         deadline, made = time.monotonic() + self.play_clock - SPARE, joint_move(moves, len(self.shown.roles))
-        asked = self.next_message(self.play_clock)
-        note = self.advance(made)
-        legal = self.shown.legal(self.role)
         with self.changed:
-            if self.asked != asked:
-                return None
+            asked = self.next_message(self.play_clock)
+            note = self.advance(made)
+            legal = self.shown.legal(self.role)
+            is_taken()
             self.sent, self.legal, self.deadline = None, legal, deadline
             self.show("moving", legal, note)
             self.changed.wait_for(lambda: self.has_move() or self.asked != asked, max(0.0, deadline - time.monotonic()))
@@ -242,10 +243,11 @@ class Seat:
 
     def stop(self, moves: object) -> str:
         made = joint_move(moves, len(self.shown.roles))
-        asked = self.next_message()
-        note = self.advance(made)
-        text = ", ".join(f"{role} {'no goal' if goal is None else goal}" for role, goal in self.shown.goals().items())
-        self.end(asked, "over", f"{note} The match is over: {text}.".strip())
+        with self.changed:
+            asked = self.next_message()
+            note = self.advance(made)
+            text = ", ".join(f"{role} {'no goal' if goal is None else goal}" for role, goal in self.shown.goals().items())
+            self.end(asked, "over", f"{note} The match is over: {text}.".strip())
         return "done"
 
     def advance(self, moves: tuple) -> str:

@@ -7,8 +7,10 @@ import ipaddress
 import json
 import re
 import secrets
+import select
 import socket
 import sys
+import threading
 import time
 from collections import Counter
 from collections.abc import Iterator, Mapping
@@ -55,6 +57,8 @@ class Request(io.RawIOBase):
         self.connection, self.client, self.visitors = connection, client, visitors
         self.is_idle, self.began, self.received, self.most = True, time.monotonic(), 0, LONGEST_HEAD
         self.ends = self.began + REQUEST_SECONDS
+        # Set once the message has been taken, or is not one. The next message waits for that.
+        self.is_taken, self.before = threading.Event(), None
 
     def readable(self) -> bool:
         return True
@@ -78,6 +82,11 @@ class Request(io.RawIOBase):
         # The kernel ends a connection whose client has disappeared without closing it, for example because its computer is offline.
         self.connection.setsockopt(socket.IPPROTO_TCP, socket.TCP_USER_TIMEOUT, PATIENCE * 1_000)
 
+    def wait_for_turn(self) -> None:
+        """Waits until the message before this one has been taken."""
+        if self.before:
+            self.before.wait(REQUEST_SECONDS)
+
     def end(self) -> None:
         self.visitors.go(self)
         with contextlib.suppress(OSError):
@@ -96,6 +105,7 @@ class Handler(BaseHTTPRequestHandler):
 
     def do_GET(self) -> None:
         self.asked.is_whole()
+        self.asked.is_taken.set()
         if not is_own_name(self.headers["Host"] or "", self.server.server_name):
             self.send_error(HTTPStatus.FORBIDDEN)
         elif self.path == f"{self.server.page}events":
@@ -149,8 +159,9 @@ class Handler(BaseHTTPRequestHandler):
 
     def take_message(self, body: bytes) -> None:
         """Answers the referee. If there is no move in time, the connection is closed without an answer."""
+        self.asked.wait_for_turn()
         try:
-            answer = self.server.seat.answer(body.decode("latin-1"), self.headers["Receiver"] or "", self.client_address[0])
+            answer = self.server.seat.answer(body.decode("latin-1"), self.headers["Receiver"] or "", self.client_address[0], self.asked.is_taken.set)
         except (Unread, RecursionError) as why:
             self.send_error(HTTPStatus.BAD_REQUEST, ascii(str(why)[:200]))
             return
@@ -212,6 +223,8 @@ class Server(ThreadingHTTPServer):
         super().__init__(address, Handler)
         self.seat, self.page = seat, f"/{secrets.token_urlsafe(16)}/"
         self.visitors, self.requests, self.readers = Visitors(MOST_CONNECTIONS), {}, set()
+        # The last request that had arrived before its connection was accepted.
+        self.last: Request | None = None
         # The end of the period, and the clients of the strangers' connections that began in it.
         self.ends, self.strangers = 0.0, []
 
@@ -222,9 +235,18 @@ class Server(ThreadingHTTPServer):
         is_stranger = client != THIS_COMPUTER and client_address[0] not in self.seat.referees
         if is_stranger and not self.is_in_share(client) or not self.visitors.has_room_for(client):
             return False
-        self.requests[request] = Request(request, client, self.visitors)
-        self.visitors.come(self.requests[request])
+        self.requests[request] = asked = Request(request, client, self.visitors)
+        self.visitors.come(asked)
+        if client_address[0] in self.seat.referees:
+            self.put_in_order(asked)
         return True
+
+    def put_in_order(self, asked: Request) -> None:
+        """Has messages taken in their order if several wait to be accepted, for example because this computer was asleep. A connection on which nothing
+        has arrived yet holds up no message: a browser may open it in advance."""
+        asked.before = self.last and self.last.is_taken
+        if select.select([asked.connection], [], [], 0)[0]:
+            self.last = asked
 
     def is_in_share(self, client: str) -> bool:
         """Returns whether a stranger may have one more connection. It has a share of the open connections, and a share of those that begin in a period."""
@@ -237,6 +259,7 @@ class Server(ThreadingHTTPServer):
 
     def shutdown_request(self, request: socket.socket) -> None:
         if asked := self.requests.pop(request, None):
+            asked.is_taken.set()
             self.visitors.go(asked)
         super().shutdown_request(request)
 
