@@ -9,6 +9,7 @@ import re
 import socket
 import subprocess
 import sys
+import time
 import urllib.request
 from collections.abc import Iterator, Sequence
 from concurrent.futures import ThreadPoolExecutor
@@ -28,17 +29,18 @@ CUT = "ggp_manager: the service ended, and cut connections that were still open 
 class Service:
     """A desk that listens. `end` closes its standard input; after that, `history`, `records` and `errors` have its output."""
 
-    def __init__(self, folder: pathlib.Path, options: Sequence[str], game: str, address: str, before: Sequence[str]) -> None:
-        self.files, self.game, pipe = (folder / "history", folder / "records"), game, subprocess.PIPE
-        history, records = self.files
-        words = [*before, program(), "desk", f"--listen={address}", f"--history={history}", f"--records={records}", game, *options]
+    def __init__(self, folder: pathlib.Path, options: Sequence[str], game: str, address: str, before: Sequence[str], files: Sequence[str]) -> None:
+        self.files, self.game, pipe = [folder / name for name in files], game, subprocess.PIPE
+        named = [f"--{file.name}={file}" for file in self.files]
+        words = [*before, program(), "desk", f"--listen={address}", *named, game, *options]
         self.process = subprocess.Popen(words, stdin=pipe, stdout=pipe, stderr=pipe)
         self.address = self.process.stdout.readline().decode().removeprefix("listening on ").rstrip("\n")
 
     def end(self) -> int:
         """Returns the exit status."""
         self.errors = self.process.communicate()[1].decode()
-        self.history, self.records = (file.read_bytes() for file in self.files)
+        made = {file.name: file.read_bytes() for file in self.files}
+        self.history, self.records = made["history"], made.get("records", b"")
         return self.process.returncode
 
     def connect(self) -> socket.socket:
@@ -61,11 +63,17 @@ class Service:
 
 @contextlib.contextmanager
 def serving(
-    folder: pathlib.Path, *options: str, game: str = COUNTDOWN, address: str = "127.0.0.1:0", errors: str = "", before: Sequence[str] = ()
+    folder: pathlib.Path,
+    *options: str,
+    game: str = COUNTDOWN,
+    address: str = "127.0.0.1:0",
+    errors: str = "",
+    before: Sequence[str] = (),
+    files: Sequence[str] = ("history", "records"),
 ) -> Iterator[Service]:
     """Yields a desk that listens, and ends it. Its standard error must match the pattern `errors`. A busy computer may not notice within 5 seconds
     that a client is gone."""
-    service = Service(folder, options, game, address, before)
+    service = Service(folder, options, game, address, before, files)
     try:
         yield service
         if service.process.returncode is None:
@@ -207,7 +215,9 @@ def test_a_client_that_does_not_read(tmp_path: pathlib.Path) -> None:
             sending = pool.submit(silent.sendall, b"query m1\n" * 100_000)
             play_countdown(other, "m2")
             assert not sending.done()
+            began = time.monotonic()
             assert (service.end(), service.errors) == (0, CUT)
+            assert time.monotonic() - began >= 5
             assert isinstance(sending.exception(), ConnectionError)
     assert 0 < [call for _, call, _ in service.calls()].count(b"query m1") < 100_000
 
@@ -269,15 +279,18 @@ def test_a_desk_that_is_killed(tmp_path: pathlib.Path) -> None:
     ],
 )
 def test_addresses_and_files_that_are_refused(tmp_path: pathlib.Path, option: str, error: str) -> None:
+    """A desk that is refused makes no file, so the same command can be given again."""
     (tmp_path / "file").write_bytes(b"old")
     with serving(tmp_path) as service:
         given, wanted = (text.format(used=service.address, folder=tmp_path) for text in (option, error))
-        words = [program(), "desk", COUNTDOWN, *([] if "listen" in option else ["--listen=127.0.0.1:0"]), given]
+        more = [f"--{name}={value}" for name, value in (("listen", "127.0.0.1:0"), ("history", tmp_path / "new")) if name not in option]
+        words = [program(), "desk", COUNTDOWN, *more, given]
         said = subprocess.run(words, stdin=subprocess.DEVNULL, capture_output=True, text=True)
         assert (said.returncode, said.stdout) == (1, "")
         assert said.stderr.endswith(f"ggp_manager: {wanted}\n")
         assert service.ask(b"query m1\n") == b"refused nomatch\n"
     assert (tmp_path / "file").read_bytes() == b"old"
+    assert not (tmp_path / "new").exists()
 
 
 @pytest.mark.parametrize(("name", "error"), [("gone", "bad description: no such file"), ("file", "bad description")])
@@ -307,8 +320,9 @@ def test_a_file_with_two_uses_is_refused(tmp_path: pathlib.Path, option: str) ->
     assert said.stderr.endswith(f"ggp_manager: {TWO_USES[option]}\n")
 
 
-def test_a_history_that_cannot_be_written(tmp_path: pathlib.Path) -> None:
-    with serving(tmp_path, before=["prlimit", "--fsize=0"]) as service:
+@pytest.mark.parametrize("files", [["history"], ["history", "records"]], ids=" and ".join)
+def test_a_history_that_cannot_be_written(tmp_path: pathlib.Path, files: list[str]) -> None:
+    with serving(tmp_path, before=["prlimit", "--fsize=0"], files=files) as service:
         service.ask(b"query m1\n")
         assert (service.end(), service.history) == (1, b"")
         wanted = f"ggp_manager: {tmp_path}/history can't be used: the file can't be written\nggp_manager: bad file of calls: the file can't be written\n"
