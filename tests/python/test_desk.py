@@ -3,7 +3,6 @@
 import asyncio
 import json
 import pathlib
-import resource
 import subprocess
 import sys
 
@@ -152,17 +151,3 @@ def test_the_referee(game: str) -> None:
     assert played.stderr == b""
     verified = subprocess.run([program(), "verify", "--lines", f"--rules-file={rules}"], input=played.stdout, capture_output=True)
     assert verified.stdout == b"lawful\nlawful\n"
-
-
-def seconds_to_load(folder: pathlib.Path, conditions: int) -> float:
-    """Returns the processor time in which `desk` loads a game whose end has so many conditions, each the head of another rule."""
-    rules, atoms = folder / f"{conditions}.kif", " ".join(f"(p {number})" for number in range(conditions))
-    rules.write_text(f"(role ann) (<= terminal {atoms}) {atoms}", encoding="ascii")
-    before = resource.getrusage(resource.RUSAGE_CHILDREN).ru_utime
-    subprocess.run([program(), "desk", f"--rules-file={rules}"], stdin=subprocess.DEVNULL, check=True)
-    return resource.getrusage(resource.RUSAGE_CHILDREN).ru_utime - before
-
-
-def test_the_time_to_load_grows_with_the_text_only(tmp_path: pathlib.Path) -> None:
-    """Eight times the conditions take eight times as long, and not 64 times."""
-    assert seconds_to_load(tmp_path, 8_000) < 16 * seconds_to_load(tmp_path, 1_000)
