@@ -103,8 +103,8 @@ class BadInput(InFolder):
         game, referee = self.folder / "game.kif", stand_in(roles=lambda *_: ("robot",))
         buttons = (GAMES / "buttons.kif").read_text()
         for text, words in (
-            ("(role robot)", "no match of it can begin: it is aborted at the start with `nolegal robot`"),
-            ("(role robot) (<= terminal (role robot))", "no match of it can begin: it is aborted at the start with `nogoal robot`"),
+            ("(role robot)", "none of its matches can begin: each is aborted at the start with `nolegal robot`"),
+            ("(role robot) (<= terminal (role robot))", "none of its matches can begin: each is aborted at the start with `nogoal robot`"),
             (buttons.replace("(<= terminal solved", "(=> terminal solved").replace("robot 0", "robto 0"), "all of 5 random matches were aborted, with `nogoal robot`"),
             (buttons, ""),
         ):
@@ -119,7 +119,7 @@ class BadInput(InFolder):
             (self.folder / "schedule.tsv").unlink()
 
     def test_a_game_whose_matches_are_long_is_planned_and_told(self):
-        for fault, words in ((TimeIsOver(), "no random match of it ended within 10 s"), (RecursionError(), "it was not tested: its rules depend on one another too deeply")):
+        for fault, words in ((TimeIsOver(), "none of its random matches ended within 10 s"), (RecursionError(), "it was not tested: its rules depend on one another too deeply")):
             with mock.patch("ggp_tools.descriptions.random_matches.RandomMatches.play", side_effect=fault):
                 why, note = trial(b"(role a)", None, "game")
             self.assertIsNone(why)

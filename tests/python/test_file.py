@@ -183,7 +183,7 @@ class CompetitionFile(unittest.TestCase):
     def test_the_document_has_the_limits(self):
         text = (TOP / "docs/COMPETITION.md").read_text()
         limits = [
-            f"at most {MOST_OF_COMPETITION:,} bytes", f"at most {MOST_SIGNS:,} of the signs", f"at most {MOST_PLAYERS:,} players, {MOST_GAMES:,} games", f"at most {MOST_MATCHES:,} matches", f"at most {MOST_EARLIER:,} files with {MOST_OF_EARLIER:,} bytes in total", f"`rounds`, 1 to {MOST_ROUNDS:,} (1)", f"0 to {MOST_STRIKES}",
+            f"at most {MOST_OF_COMPETITION:,} bytes", f"at most {MOST_SIGNS:,} of the characters", f"at most {MOST_PLAYERS:,} players, {MOST_GAMES:,} games", f"at most {MOST_MATCHES:,} matches", f"at most {MOST_EARLIER:,} files with {MOST_OF_EARLIER:,} bytes in total", f"`rounds`, 1 to {MOST_ROUNDS:,} (1)", f"0 to {MOST_STRIKES}",
             "`tries` | 1 to 1,000 (5)", f"0 to {MOST_SECONDS:,} (10)", f"N matches at the same time, 1 to {MOST_AT_ONCE:,}, by default 4", "`concurrent = N`, 1 to 1,024",
             "`name` | 1 to 40 letters", "`name`, 1 to 64 letters",
         ]
