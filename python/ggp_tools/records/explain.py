@@ -24,8 +24,9 @@ COMMAND = "ggp-explain-record"
 ABOUT = (
     "Explains why a record is not lawful: what was expected, and what was found. If the record is lawful, it prints `lawful`. Otherwise it prints "
     "the error in the referee's words, and an explanation below it. Turns are counted from 1, and roles are given by name. An interpreter that "
-    "shares no code with the referee computes what was expected. If the interpreter finds a different error first, this is reported. With --lines each line "
-    "is a record. Those that are not lawful are printed, with the number of the line and an explanation. Lines of call logs are skipped."
+    "shares no code with the referee computes what was expected. If the interpreter finds a different error first, the command reports this. With "
+    "--lines, each line is a record. The command prints those that are not lawful, with the number of the line and an explanation, and skips the lines "
+    "of call logs."
 )
 STATUS = "status 0: all records are lawful. 1: at least one is not. 2: usage error. 3: there is no verdict."
 MOST_LISTED, MOST_OF_TEXT = 20, 400
