@@ -27,7 +27,7 @@ NO_CHARACTER = re.compile(r"[^\t\n\r\x20-\x7e]")
 
 
 class Refused(Exception):
-    """Why a description cannot be grounded: one line, the number of the faulty sentence, if there is one, and advice."""
+    """The reason why a description cannot be grounded, in one line, with advice. If one sentence is at fault, `sentence` is its number."""
 
     def __init__(self, words: str, sentence: int | None = None, advice: str = "") -> None:
         super().__init__(words)
@@ -35,7 +35,7 @@ class Refused(Exception):
 
 
 class KifFault(Refused):
-    """Why a text is not KIF, with the index of the error."""
+    """The reason why a text is not KIF. `index` is the position of the error."""
 
     def __init__(self, words: str, index: int, advice: str = "") -> None:
         super().__init__(words, advice=advice)
@@ -53,8 +53,8 @@ def advice_for_bytes(text: str) -> str:
 
 
 def tokens(text: str, takes_bytes: bool = False) -> Iterator[tuple[str, int, int]]:
-    """Yields each parenthesis and each atom of a text, with its index and the number of lists that contain it. Refuses a text that is not KIF. With
-    `takes_bytes` any bytes are allowed, for messages."""
+    """Yields each parenthesis and each atom of a text, with its index and the number of lists that contain it. Refuses a text that is not
+    KIF. With `takes_bytes`, any bytes are allowed, because a message must be able to quote them."""
     text = blanked(text)
     if not takes_bytes and (bad := NO_CHARACTER.search(text)):
         raise KifFault(f"a byte that is not a character of KIF: {bad[0]!r}", bad.start(), advice_for_bytes(text))
@@ -141,7 +141,7 @@ def variables(expression: Expression) -> list[str]:
 
 
 def fits(pattern: Expression, term: Expression, values: dict[str, Expression]) -> bool:
-    """Returns whether the pattern equals the term for some values of its variables, and adds these values."""
+    """Returns whether the pattern equals the term for some values of the pattern's variables. Adds these values to `values`."""
     if is_variable(pattern):
         return values.setdefault(pattern, term) == term
     if isinstance(pattern, str) or isinstance(term, str):
@@ -197,7 +197,7 @@ def grouped(values: Iterable[Value], key: Callable[[Value], Key]) -> dict[Key, l
 
 
 def fresh(word: str, taken: Collection[str], ending: str = "") -> str:
-    """Appends hyphens to a word until no name in `taken` consists of the word and a match of this regular expression."""
+    """Appends hyphens to a word until no name in `taken` is this word followed by a match of the regular expression `ending`."""
     while any(re.fullmatch(re.escape(word) + ending, name) for name in taken):
         word += "-"
     return word

@@ -43,8 +43,8 @@ class Event:
 
 @dataclass(frozen=True, slots=True)
 class Message(Event):
-    """A message to the player of a role, numbered from 1, and its answer, or an error instead. `time` is when the message was sent, and `ms` how long
-    the answer took. START has `...` instead of the description."""
+    """A message to a role's player, with its answer or the error that replaces the answer. `number` counts from 1. `time` is when the
+    message was sent, and `ms` is how long the answer took. In START, `...` replaces the description."""
 
     match: str
     role: int
@@ -107,7 +107,7 @@ class Host(Event):
 
 @dataclass(frozen=True, slots=True)
 class Other(Event):
-    """An event that is only printed."""
+    """An event that the tools only print."""
 
     name: str
     values: dict[str, str | int | None]
@@ -120,7 +120,7 @@ TYPES_OF_OTHER = str, int, type(None)
 
 
 def is_value(key: str, value: object, kinds: tuple[type, ...]) -> bool:
-    """Returns whether a key may have a JSON value."""
+    """Returns whether this JSON value is allowed for the key."""
     kind = type(value)
     if kind not in kinds:
         return False
@@ -150,7 +150,7 @@ def event_of(line: bytes) -> Event | None:
 
 
 def values_of(event: Event) -> tuple[str, dict[str, str | int | None]]:
-    """Returns the name of an event and the values by their keys."""
+    """Returns the name of an event, and its values by key."""
     if isinstance(event, Other):
         return event.name, event.values
     name = NAMES[type(event)]
@@ -203,7 +203,7 @@ class Runs:
 
 
 def runs_of(log: BinaryIO, match: str) -> Iterator[list[Event]]:
-    """Yields the events of each run of a match in a log. There is at least one run, which may have no events."""
+    """Yields the events of each run of a match in a log. Yields at least one run, which may be empty."""
     run: list[Event] = []
     runs = Runs()
     for event in events(log):
