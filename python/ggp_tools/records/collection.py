@@ -28,7 +28,8 @@ NO_GAME, NO_RECORD = "no game has its roles", "no record: "
 
 @dataclass(frozen=True, eq=False)
 class KnownGame:
-    """A game of the directory of rules. `name` is the name of the file, `rules` has the rules for the interpreter, and `first` is the first state."""
+    """A game in the directory of rules. `name` is the name of the file, `rules` has the rules for the interpreter, and `first` is the first
+    state."""
 
     name: str
     path: str
@@ -121,7 +122,6 @@ def candidates(record: dict, games: list[KnownGame]) -> list[KnownGame]:
 
 
 def line_of(file: str, number: int, data: bytes) -> Line:
-    """Parses a line."""
     if len(data) > LONGEST_RECORD:
         return Line(file, number, b"", None, TOO_LONG)
     try:
@@ -132,7 +132,7 @@ def line_of(file: str, number: int, data: bytes) -> Line:
 
 
 class Pile:
-    """The lines of some files. It counts skipped lines."""
+    """The lines of some record files. Skipped lines are counted."""
 
     def __init__(self, files: Iterable[str]) -> None:
         self.files, self.skipped = list(files), 0

@@ -1,5 +1,5 @@
-"""Chooses what a board shows for each label: a glyph for known pieces, stones, marks and cards, else the label itself, shortened if it is long.
-Different labels always look different."""
+"""Chooses how a board shows each label: as a glyph for known pieces, stones, marks and cards, otherwise as the label itself, shortened if
+it is long. Different labels always look different."""
 
 import re
 from collections import Counter
@@ -10,7 +10,7 @@ LONGEST = 6
 # A long text is shortened to five letters: this many at its end, and the others at its beginning. The numbers are tried in this order.
 TAILS = (2, 3, 1, 4)
 CUT = "\N{HORIZONTAL ELLIPSIS}"
-# Without this some browsers draw a pawn as an emoji.
+# Without this character, some browsers draw a pawn as an emoji.
 AS_TEXT = "\N{VARIATION SELECTOR-15}"
 CHESS = {
     "king": "\N{BLACK CHESS KING}", "queen": "\N{BLACK CHESS QUEEN}", "rook": "\N{BLACK CHESS ROOK}", "bishop": "\N{BLACK CHESS BISHOP}",

@@ -35,10 +35,10 @@ MOST_DRAWN = 32_768
 # A state is drawn from at most MOST_READ terms: its own, those of earlier states, and those of the rules. Its boards have at most MOST_PLACES places
 # and names in total. These limits keep the processor time of a drawing below about half a second. A larger state is listed as text.
 MOST_READ, MOST_PLACES = 16_384, 4_096
-# A part of the page of a long match draws states with at most this many terms in total, which takes about as long. On average, these terms have at
-# most this many letters.
+# The page of a long match has parts. The states of a part have at most this many terms in total, so that drawing a part takes about as long
+# as drawing the largest state. Terms with more than this many letters on average count as more terms.
 MOST_OF_PART, LETTERS = 16_384, 64
-# The sizes of the caches of terms, of cells and of openings of boards.
+# The sizes of the caches of terms, of cells, and of the opening tags of boards.
 MOST_TERMS, MOST_CELLS, MOST_BOARDS = 65_536, 16_384, 64
 
 PHASES = {
@@ -67,7 +67,7 @@ ERRORS = {
 # Terms of a state that name the role whose turn it is.
 TURN = re.compile(r"\((?:control|turn|on-turn) ([^()]*)\)")
 
-# The values of a page for a state that is listed as text, except the terms of the state.
+# A state that is listed as text: the values that its page gets besides the terms of the state.
 LISTED = {"boards": "", "before": None, "gone": [], "is_empty": False, "drawn": [], "more": 0}
 
 # The labels at each place of a board.
@@ -131,16 +131,17 @@ def kind_of(axis: list[str]) -> str:
 
 
 def is_pairing(states: list[list[list[str]]]) -> bool:
-    """Returns whether in every state each first argument has exactly one second argument, or each second argument one first. Such arguments are not
-    places."""
+    """Returns whether in every state each first argument has exactly one second argument, or each second argument has exactly one first
+    argument. Such arguments are not places."""
     return any(all(len({term[side] for term in terms}) == len(terms) for terms in states) for side in (1, 2))
 
 
 @dataclass
 class Board:
-    """Terms that name places. `forms` has, for each relation with its number of members, the index of the first of the two members that name the
-    place, and the indices of the label: those of the other arguments, or that of the relation if there are none. `lean` is 0, or for a board of
-    hexagons 1 or -1: the number of half places by which each row is shifted to the right of the one below it."""
+    """Terms that name places. The keys of `forms` are the relations with their numbers of members. Each value has the index of the first of
+    the two members that name the place, and the indices of the members that make up the label: the other arguments or, if there are none,
+    the relation. `lean` is 0 for squares. For hexagons it is 1 or -1: each row is half a place to the right or to the left of the row below
+    it."""
 
     across: list
     up: list
@@ -218,8 +219,8 @@ def form_of(words_by_state: list[list[list[str]]], members: list[set[str]]) -> t
 
 
 class Named:
-    """The terms and moves in rules, with or without variables: for each relation the words of each term of a state, and the legal moves. `is_hex`
-    says that boards have hexagons, if their shape does not show it."""
+    """The terms of states and the moves that rules contain, possibly with variables: the terms by relation, each as a list of words, and
+    the legal moves. If `is_hex` is set, boards have hexagons even if their shape does not show this."""
 
     def __init__(self, sentences: Iterable[Expression] = (), is_hex: bool = False) -> None:
         heads = [head for head in map(head_of, sentences) if head[0] in ("init", "next", "legal") and len(head) > 1]
@@ -232,7 +233,8 @@ class Named:
 
     @functools.cached_property
     def boards(self) -> list[Board]:
-        """The boards whose places are known without a state, because moves name them. Rows are not letters, because (on a b) is a pile."""
+        """The boards whose places are known without a state, because moves name them. A board whose rows are letters is left out, because
+        (on a b) describes a pile of blocks."""
         found = boards_of_terms({group: {0: terms} for group, terms in self.ground.items() if terms}, Named((), self.is_hex))
         return [board for board in found if kind_of(board.up) != "letters" and any(places_of(move, board) for move in self.moves)]
 
@@ -259,7 +261,7 @@ def boards_of_terms(terms: dict[Group, dict[int, list[list[str]]]], named: Named
     for group, by_state in terms.items():
         states, seen = list(by_state.values()), members_of(by_state.values())
         words = [word | more for word, more in zip(seen, named.members.get(group, seen))]
-        # Some words in rules are not places, for example those for places off the board.
+        # Some words in rules, for example those for places off the board, are not places.
         further = named.ground.get(group, ()) if form_of(states, words) else ()
         words = words if further else seen
         if form := form_of(states, words):
@@ -306,7 +308,8 @@ def board_places(board: Board, state: list[str]) -> Places:
 
 
 def ground_of(board: Board, places: Places) -> str | None:
-    """Returns the label that more than half of all places have, if every place has a label: that of an empty cell."""
+    """Returns the label of more than half of all places, which is that of an empty cell. Returns None if there is no such label, or if a
+    place has no label."""
     labels = [labels[0] for labels in places.values()]
     if len(labels) < len(board.across) * len(board.up):
         return None
@@ -350,8 +353,9 @@ def board_page(
 def states_of_page(
     states: list[list[str]], roles: Sequence[str], named: Named = Named(), since: int = 0, most: float = math.inf, is_played: bool = False
 ) -> Iterator[dict[str, Any]]:
-    """Yields each state, beginning with number `since`: its boards, unless they have more than `most` places in total; the role whose turn it is, if
-    the state names it; and the terms that no board shows: the current, previous and removed ones."""
+    """Yields each state, beginning with number `since`: its boards, unless they have more than `most` places in total; the role whose turn
+    it is, if the state names it; and the terms that no board shows: those of this state, those of the previous state, and those that were
+    removed."""
     boards = boards_of(states, named)
     is_drawn = len(boards) * (len(states) - since) <= MOST_DRAWN and sum(board.size(is_played) for board in boards) <= most
     boards = boards if is_drawn else []
@@ -374,12 +378,12 @@ def states_of_page(
 
 
 def quick(named: Named) -> Named:
-    """Returns the names, or, if the rules have too many of them, the names without those in the rules."""
+    """Returns the names in the rules. If they are too many to be read, returns no names, but keeps the shape of the boards."""
     return Named(is_hex=named.is_hex) if sum(map(len, named.terms.values())) > MOST_READ else named
 
 
 def last_state(states: list[list[str]], roles: Sequence[str], named: Named, is_played: bool = False) -> dict[str, Any] | None:
-    """Returns the drawing of the last state, if there is one. It takes as many earlier states into account as may be read."""
+    """Returns the drawing of the last state, if there is one. The drawing uses the terms of as many earlier states as the limit allows."""
     count = sum(size <= MOST_READ for size in itertools.accumulate(map(len, reversed(states))))
     if states and not count:
         return LISTED | {"terms": states[-1]}
@@ -392,7 +396,8 @@ def named_roles(state: list[str], roles: Sequence[str]) -> list[tuple[str, str]]
 
 
 def mover_of(state: list[str], roles: Sequence[str]) -> int | None:
-    """Returns the role whose turn it is, or None if the state does not name exactly one. In such states the other roles have one legal move."""
+    """Returns the role whose turn it is, or None unless the state names exactly one. If it names one, each other role has only one legal
+    move."""
     named = {role for role, _ in named_roles(state, roles)}
     return roles.index(named.pop()) if len(named) == 1 else None
 
@@ -401,7 +406,7 @@ def turn_of_page(moves: Sequence[str], errors: Sequence[str], mover: int | None,
     """Returns the moves of a turn by role, with the reasons for replaced moves."""
     found = []
     for role, (move, error) in enumerate(zip(moves, errors)):
-        # A role that is not on turn has one legal move, a single word such as `noop`.
+        # A role whose turn it is not has one legal move, a single word such as `noop`.
         is_idle = mover not in (None, role) and not error and "(" not in move
         found.append({"text": move, "error": error, "why": why(role, error) if error else "", "is_idle": is_idle})
     return found
@@ -415,7 +420,8 @@ def weight_of(state: list[str]) -> int:
 
 
 def states_of_part(states: list[list[str]], part: range, roles: Sequence[str], named: Named) -> list[dict[str, Any]]:
-    """Returns the states of a part of the page of a long match. The beginning of a state that is too large for a part is listed."""
+    """Returns the states of a part of the page of a long match. If a state is too large for a part, only the beginning of its list of terms
+    is shown."""
     first, before = states[part.start], max(0, part.start - 1)
     if (weight := weight_of(first)) > MOST_OF_PART:
         shown = first[: len(first) * MOST_OF_PART // weight]
@@ -438,8 +444,8 @@ def parts_of(states: list[list[str]]) -> list[range]:
 
 @dataclass(frozen=True)
 class Frame:
-    """How the page of a match is made: the head of the page as HTML, the names in the rules, the winner if the goals do not determine the winner, and
-    the part that is shown, or all parts."""
+    """What the page of a match shows besides the record: HTML for its head, the names in the rules, the winner if the goals do not
+    determine one, and the number of the part to show, or None for all parts."""
 
     head: "Markup | str" = ""
     named: Named = Named()
@@ -450,7 +456,8 @@ class Frame:
 def page_of(
     record: dict, game: Callable[[], Game] | None = None, answers: dict[tuple[int, int], str] | None = None, frame: Frame = Frame()
 ) -> bytes:
-    """Returns the page in ASCII. With the game and the answers, by role and turn counted from 0, the page explains replaced moves."""
+    """Returns the page in ASCII. If the game is given, the page also explains replaced moves, with `answers` by role and turn, counted from
+    0."""
     all_states, moves, errors, whys = record["states"], record["moves"], record["errors"], Whys(record, game, answers or {})
     parts = [range(len(all_states))] if frame.part is None else parts_of(all_states)
     part, roles = parts[frame.part or 0], record["roles"]
