@@ -326,7 +326,7 @@ class Held(Made):
     def test_what_is_said_of_them(self):
         same = "the same: 2 turns"
         self.assertEqual(self.held(same, same, same), ("; 3 matches agree with descriptions that have variables", []))
-        self.assertEqual(self.held(same, "differs: x", same), ("; 2 matches agree with descriptions that have variables", ["cup-002: compared with games/heap.kif it differs: x"]))
+        self.assertEqual(self.held(same, "differs: x", same), ("; 2 matches agree with descriptions that have variables", ["cup-002: compared with games/heap.kif, it differs: x"]))
         said = "; 1 match agrees with descriptions that have variables, and 2 could not be followed: cup-001 not followed: a, cup-003 not followed: b"
         self.assertEqual(self.held("not followed: a", same, "not followed: b"), (said, []))
         said = "; 0 matches agree with descriptions that have variables, and 3 could not be followed: cup-001 not followed: a, cup-002 not followed: a, cup-003 not followed: a"
@@ -336,7 +336,7 @@ class Held(Made):
     def test_a_match_that_differs_is_a_fault_of_the_archive(self):
         self.publish()
         with mock.patch.object(archive, "has_variables", lambda _: True), mock.patch.object(archive, "comparisons", lambda _, records: ["differs: y" for _ in records]):
-            self.assertEqual(self.check(), ([f"cup-00{at}: compared with games/heap.kif it differs: y" for at in (1, 2, 3)], ""))
+            self.assertEqual(self.check(), ([f"cup-00{at}: compared with games/heap.kif, it differs: y" for at in (1, 2, 3)], ""))
         with mock.patch.object(archive, "has_variables", lambda _: True), mock.patch.object(archive, "comparisons", lambda _, records: ["the same: 2 turns" for _ in records]):
             self.assertIn("the pages are right; 3 matches agree with descriptions that have variables; published with", self.check()[1])
 

@@ -103,8 +103,8 @@ class BadInput(InFolder):
         game, referee = self.folder / "game.kif", stand_in(roles=lambda *_: ("robot",))
         buttons = (GAMES / "buttons.kif").read_text()
         for text, words in (
-            ("(role robot)", "no match of it can begin: it is aborted at the start with `nolegal robot`"),
-            ("(role robot) (<= terminal (role robot))", "no match of it can begin: it is aborted at the start with `nogoal robot`"),
+            ("(role robot)", "no match can begin: each one is aborted at the start with `nolegal robot`"),
+            ("(role robot) (<= terminal (role robot))", "no match can begin: each one is aborted at the start with `nogoal robot`"),
             (buttons.replace("(<= terminal solved", "(=> terminal solved").replace("robot 0", "robto 0"), "all of 5 random matches were aborted, with `nogoal robot`"),
             (buttons, ""),
         ):
@@ -119,7 +119,7 @@ class BadInput(InFolder):
             (self.folder / "schedule.tsv").unlink()
 
     def test_a_game_whose_matches_are_long_is_planned_and_told(self):
-        for fault, words in ((TimeIsOver(), "no random match of it ended within 10 s"), (RecursionError(), "it was not tested: its rules depend on one another too deeply")):
+        for fault, words in ((TimeIsOver(), "no random match ended within 10 s"), (RecursionError(), "it was not tested: its rules depend on one another too deeply")):
             with mock.patch("ggp_tools.descriptions.random_matches.RandomMatches.play", side_effect=fault):
                 why, note = trial(b"(role a)", None, "game")
             self.assertIsNone(why)
@@ -206,8 +206,8 @@ class BadInput(InFolder):
         status, out, said = run(self.folder, "plan")
         self.assertEqual((status, said, [line.split(":")[0] for line in out.splitlines()]), (0, "", ["coins", "coins", "one", "schedule.tsv"]))
         self.assertEqual(out.splitlines()[1], (
-            "coins: goals above 100 are left out (1, the first by sentence 2, line 1: (<= (goal a ?x) (true (s ?x)))): if one would hold at the end, the role gets the other goal that holds there; "
-            "if there is none, the match has no goals"
+            "coins: goals above 100 are left out (1, the first by sentence 2, line 1: (<= (goal a ?x) (true (s ?x)))): if a role would have such a goal value at the end, it gets its other goal value; "
+            "if it has no other, the match has no goal values"
         ))
 
     def test_an_instantiation_that_is_ended(self):

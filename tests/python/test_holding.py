@@ -44,7 +44,7 @@ class Followed(unittest.TestCase):
             f"the first state lacks t{at}, which sentence {5 + terms.index(f't{at}')}, line 1: (init t{at}) gives" for at in (1, 2, 3, 4, 5)
         ])
         self.assertEqual(self.words(self.RULES, states=[["s", *terms]]).splitlines(), [
-            f"the first state has t{at}, which no sentence of the description gives there" for at in (1, 2, 3, 4, 5)
+            f"the first state has t{at}, which no sentence of the description gives" for at in (1, 2, 3, 4, 5)
         ])
         said = self.words(f"{self.RULES} {' (init s)' * 6}", states=[["x"]])
         self.assertEqual(said.splitlines()[0].count("(init s) gives"), 5)
@@ -171,8 +171,8 @@ class Followed(unittest.TestCase):
         over = {"phase": "finished", "states": [["s"]]}
         text = f"{self.RULES} (<= terminal (true s)) (goal ann 5) (goal bob 6)"
         self.assertIsNone(self.words(text, **over, goals=(5, 6)))
-        self.assertEqual(self.words(text.replace("(goal bob 6)", ""), **over, goals=(5, 6)), "bob has the goal 6 in the record, but according to the description none")
-        said = "bob has the goal 6 in the record, but according to the description sentence 7, line 1: (goal bob 6) gives 6; sentence 8, line 1: (goal bob 7) gives 7"
+        self.assertEqual(self.words(text.replace("(goal bob 6)", ""), **over, goals=(5, 6)), "bob has the goal value 6 in the record, but according to the description none")
+        said = "bob has the goal value 6 in the record, but according to the description sentence 7, line 1: (goal bob 6) gives 6; sentence 8, line 1: (goal bob 7) gives 7"
         self.assertEqual(self.words(f"{text} (goal bob 7)", **over, goals=(5, 6)), said)
         self.assertIn("but not in the description", self.words(f"{self.RULES} (goal ann 5) (goal bob 6)", **over, goals=(5, 6)))
 

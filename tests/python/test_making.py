@@ -49,7 +49,7 @@ class Made(unittest.TestCase):
     def test_what_is_written_and_said(self):
         found, said = made(GAME)
         self.assertEqual(found.splitlines(), [
-            "; goals above 100 are left out (2, the first by sentence 9, line 3: (<= (goal ?p 101) (role ?p) (true (c 3)))): if one would hold at the end, the role gets the other goal that holds there; if there is none, the match has no goals",
+            "; goals above 100 are left out (2, the first by sentence 9, line 3: (<= (goal ?p 101) (role ?p) (true (c 3)))): if a role would have such a goal value at the end, it gets its other goal value; if it has no other, the match has no goal values",
             "(role r)", "(role s)", "(init (c 1))", "(legal r (m 1))", "(legal r (m 2))", "(legal s (m 1))", "(legal s (m 2))",
             "(<= (next (c 2)) (true (c 1)) (does r (m 1)))", "(<= (next (c 3)) (true (c 2)) (does r (m 2)))", "(<= terminal (true (c 3)))", "(goal r 50)", "(goal s 50)",
         ])

@@ -361,7 +361,7 @@ class Checking(WithMatch):
 
         with mock.patch.object(open_match, "write_report", report):
             why, files = self.checked()
-        self.assertEqual(why, f"compared with the description of heap it differs: turn 1; it is kept as {self.plan.folder.records}/cup-001.json.differs; please report it, with report-cup-001.tar.gz")
+        self.assertEqual(why, f"compared with the description of heap, it differs: turn 1; it is kept as {self.plan.folder.records}/cup-001.json.differs; please report this, and include report-cup-001.tar.gz")
         self.assertEqual((files, self.open.stops_game), (self.kept(".differs"), True))
         self.assert_whole()
         self.assertEqual(reports, [("cup-001", {"description.kif": b"(p ?x)", "record.json": self.record, "account.txt": self.account, "words.txt": b"differs: turn 1\n"})])

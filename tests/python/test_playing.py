@@ -191,7 +191,7 @@ class Going(WithMatches):
             lost = {match.id: why for match in self.plan.matches[:6]} | {"cup-001": "differs", "cup-003": left}
             self.assertEqual((self.playing.left, self.playing.stopped), (lost, {"heap": why}))
             self.assertEqual((set(self.playing.results), self.playing.may_begin(self.plan.matches[0])), ({match.id for match in self.plan.matches[6:]}, False))
-            stopped = "stopped heap, because cup-001 does not follow its description; 4 waiting matches of it will not begin"
+            stopped = "stopped heap, because cup-001 does not follow its description; 4 waiting matches of this game will not begin"
             self.assertEqual(self.reporter.lines, ["no record cup-001: differs", stopped, *lines])
 
     def test_if_a_file_can_not_be_written_no_more_matches_begin(self):

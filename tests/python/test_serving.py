@@ -405,7 +405,7 @@ class Pages(Served):
         self.assertIn("It was given up: its files: x.", self.page(f"/matches/{lost.id}.html"))
         self.assertIn("It has not begun.", self.page(f"/matches/{again.id}.html"))
         # The waiting matches of a game with wrong rules will not begin.
-        lines.append(f"stopped {lost.game}, because {lost.id} does not follow its description; 5 waiting matches of it will not begin")
+        lines.append(f"stopped {lost.game}, because {lost.id} does not follow its description; 5 waiting matches of this game will not begin")
         self.write_journal(lines)
         self.look()
         self.assertIn("0 matches are open, 0 are waiting, 6 were given up", self.page("/"))

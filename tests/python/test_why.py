@@ -182,7 +182,7 @@ class Why(InFolder):
         lines = [
             "info cup-001 cup-001: available, 0.0 s", "info cup-002 cup-001: available, 0.0 s", "begin cup-002 heap bob cup-001",
             "begin cup-001 heap cup-001 bob", "end cup-002 heap bob 100, cup-001 0, 3.1 s", "no answer to abort cup-001: h:1",
-            "stopped heap, because cup-001 does not follow its description; 3 waiting matches of it will not begin",
+            "stopped heap, because cup-001 does not follow its description; 3 waiting matches of this game will not begin",
             "round 1 of 2: cup-001 to cup-002", "missing 20 matches between cup-001 and cup-020: broken off",
             # In a competition that has grown, an id may begin with the id of another match.
             "begin cup-0010 heap cup-001 bob", "stopped heap, because cup-0010 does not follow its description", "round 10 of 12: cup-001 to cup-002",

@@ -9,7 +9,7 @@ from collections.abc import Iterable, Iterator
 
 from ggp_tools.competition.competition_file import Competition, Mistake, Player
 
-# All lookups together may take this many seconds, because a resolver may not answer.
+# The time limit of all lookups together, in seconds, because a resolver may not answer.
 SECONDS = 10
 LOOPBACK = {4: "127.0.0.1", 6: "::1"}
 # An address, with the interface if it needs one, and a port.
@@ -34,7 +34,7 @@ def addresses_of(host: str, flags: int = 0) -> list[str]:
 
 
 def looked_up(hosts: Iterable[str]) -> dict[str, list[str]]:
-    """Returns the addresses of hosts. A name has no addresses if its lookup takes too long."""
+    """Returns the addresses of hosts. If the lookup of a name takes too long, the name has no addresses."""
     addresses = {host: addresses_of(host, socket.AI_NUMERICHOST) for host in hosts}
 
     def look_up(name: str) -> None:
@@ -94,8 +94,8 @@ def takes_connections(place: Place) -> bool:
 
 
 def written(name: str, places: list[Place]) -> str:
-    """Returns a player as an argument for the referee, with the first of its addresses that accepts a connection now, or else with the first
-    address."""
+    """Returns a player as an argument for the referee. The argument contains the first of the player's addresses that accepts a connection
+    now, or the first address if none does."""
     host, port = next(filter(takes_connections, places), places[0]) if len(places) > 1 else places[0]
     return f"{name}@[{host}]:{port}" if ":" in host else f"{name}@{host}:{port}"
 

@@ -27,8 +27,8 @@ from ggp_tools.reporting import NOT_BEGUN, Journal, Reporter
 from ggp_tools.streams import PACKED, ready_streams, say, whole
 
 MOST_AT_ONCE = 1_024
-DIRECTORY = "the directory of the competition, with competition.toml (the current one)"
-# If more matches than this are missing for the same reason, they are reported on one line.
+DIRECTORY = "the directory of the competition, with competition.toml (default: the current directory)"
+# If more matches than this are missing for the same reason, one line reports them all.
 MOST_LINES = 10
 HELP = "Runs a competition of game players from one directory, whose file competition.toml describes it."
 STATUS = """exit status 0: success; with `play`, each match has a lawful record. 1: failure. 2: the command or competition.toml is wrong. 3: the referee
@@ -50,14 +50,14 @@ def add_options(command: argparse.ArgumentParser, name: str) -> None:
     elif name == "try":
         add("folder", metavar="DIRECTORY", help="the directory of the competition, or its competition.toml")
         add("player", metavar="PLAYER", help="the name of the player")
-        add("--game", metavar="NAME", help="the game (the first one)")
+        add("--game", metavar="NAME", help="the name of the game (default: the first game)")
     elif name == "why":
         add("folder", metavar="DIRECTORY", help="the directory of the competition, or of an archive that was unpacked")
         add("match", metavar="MATCH", help="the id of the match")
-        add("player", nargs="?", metavar="PLAYER", help="the name of a player (all of the match)")
+        add("player", nargs="?", metavar="PLAYER", help="the name of a player (default: all players of the match)")
     elif name == "table":
         add("folder", nargs="*", default=["."], metavar="DIRECTORY", help=f"{DIRECTORY}; several directories give one table")
-        add("--to", metavar="DIRECTORY", help="where to write the files of a table of several competitions")
+        add("--to", metavar="DIRECTORY", help="the directory for the files of a table of several competitions")
     else:
         add("folder", nargs="?", default=".", metavar="DIRECTORY", help=DIRECTORY)
     if name == "again":
@@ -66,12 +66,12 @@ def add_options(command: argparse.ArgumentParser, name: str) -> None:
     if name == "plan":
         add("--preview", action="store_true", help="print the matches that it would add, or those of the next round, and write nothing")
     if name == "play":
-        add("--at-once", type=whole(1, MOST_AT_ONCE), default=4, metavar="N", help="at most N matches at once (4)")
+        add("--at-once", type=whole(1, MOST_AT_ONCE), default=4, metavar="N", help="play at most N matches at once (default: 4)")
         add("--watch", action="store_true", help="write the pages again as matches end")
     if name == "serve":
         add_serve(command)
     if name == "publish":
-        add("--to", metavar="FILE", help="the archive (NAME.tar.gz in the directory)")
+        add("--to", metavar="FILE", help="the file of the archive (default: NAME.tar.gz in the directory)")
         add("--gaps", action="store_true", help="publish even if matches have no record; the archive lists them")
 
 
@@ -190,7 +190,7 @@ def run_again(asked: argparse.Namespace, referee: Referee) -> int:
 
 
 def error_of_pages(write: Callable[..., object], *arguments: object) -> str | None:
-    """Writes the pages. Returns an error instead of raising it, so that the matches can continue."""
+    """Writes the pages. Returns errors instead of raising them, so that the matches can continue."""
     try:
         write(*arguments)
         return None
@@ -199,8 +199,9 @@ def error_of_pages(write: Callable[..., object], *arguments: object) -> str | No
 
 
 def missing_rows(missing: dict[str, str]) -> Iterator[tuple[str, list[str]]]:
-    """Yields rows about the missing matches, with the reasons, and for each row the rows of the journal. Many matches with the same reason share a
-    row. In the journal each match that was given up has a row, because the live pages read the reason there."""
+    """Yields rows about the missing matches and their reasons. With each row, yields the rows for the journal. Many matches with the same
+    reason share a row. In the journal, each match that was given up has its own row, because the live pages read the reason from this
+    row."""
     by_reason: dict[str, list[str]] = {}
     for match, why in missing.items():
         by_reason.setdefault(why, []).append(match)
@@ -291,7 +292,8 @@ def run_pages(asked: argparse.Namespace, referee: Referee) -> int:
 
 
 def archive_path(plan: Plan, to: str | None) -> pathlib.Path:
-    """Returns the path of the archive. Refuses a missing directory, a file that is not an archive, and the directories of the competition."""
+    """Returns the path of the archive. Refuses a path whose directory does not exist, a file that is not an archive, and a file in a
+    directory of the competition."""
     path = pathlib.Path(to or plan.folder.path / f"{plan.competition.name}.tar.gz")
     if path.exists() and not path.is_file():
         raise Refused(f"{path} is not a regular file: `--to` must name the file of the archive")
@@ -310,7 +312,7 @@ def run_publish(asked: argparse.Namespace, referee: Referee) -> int:
     from ggp_tools.competition.archive import publish
     from ggp_tools.competition.packing import TooLarge
 
-    # Locking keeps other runs from changing the plan until the archive is written.
+    # The lock keeps other runs from changing the plan until the archive is written.
     with held(asked.folder):
         plan = read_plan(asked.folder, referee)
         path, known = archive_path(plan, asked.to), Known(plan.folder.path)

@@ -16,7 +16,8 @@ PLAYER_NAME = re.compile(r"[A-Za-z0-9_.-]{1,64}")
 ADDRESS = re.compile(r"(\[[0-9A-Fa-f:.]+(?:%[A-Za-z0-9_.-]+)?\]|[A-Za-z0-9_.-]+):([0-9]{1,5})")
 MARK = b"\xef\xbb\xbf"
 CONTROL = re.compile(r"[\x00-\x1f\x7f-\x9f]")
-# The maximum number of characters of a key or a value in a message, and of mistakes that are reported for a file.
+# The maximum number of characters that a message quotes of a key or a value, and the maximum number of mistakes that are reported for a
+# file.
 MOST_SHOWN, MOST_MISTAKES = 200, 100
 # The maximum size of the file.
 MOST_OF_COMPETITION = 4 << 20
@@ -68,7 +69,7 @@ class Mistaken(Exception):
 
 
 def mistake_lines(path: object, mistakes: Sequence[Mistake]) -> str:
-    """Returns the first mistakes of a file, a line for each, and how many more there are."""
+    """Returns a line for each of the first mistakes of a file, and a line that says how many more there are."""
     lines = [f"{path}:{mistake.line}: {mistake.key + ': ' if mistake.key else ''}{mistake.words}" for mistake in mistakes[:MOST_MISTAKES]]
     more = [f"{path}: {counted(len(mistakes) - MOST_MISTAKES, 'more mistake')}"] if len(mistakes) > MOST_MISTAKES else []
     return "\n".join([*lines, *more])
@@ -83,7 +84,7 @@ class Text:
 
 
 def spelled(value: object) -> str:
-    """Returns a value of the file in the form that messages show."""
+    """Formats a value of the file for messages."""
     if isinstance(value, dict | list):
         return "a table" if isinstance(value, dict) else "an array"
     if isinstance(value, bool):
@@ -102,7 +103,7 @@ def is_address(text: str) -> bool:
 
 
 class Section:
-    """A table that is read key by key. Its mistakes are collected with their lines and keys."""
+    """A table whose keys are read one by one. Collects mistakes with their lines and keys."""
 
     def __init__(self, table: dict, path: Path, lines: dict[Path, int], mistakes: list[Mistake]) -> None:
         self.table, self.path, self.lines, self.mistakes = table, path, lines, mistakes
@@ -232,7 +233,7 @@ class Section:
         return found
 
     def names(self, key: str) -> set[str]:
-        """Returns the names in an array of tables, even if the rest of it is invalid."""
+        """Returns the names in an array of tables, even if other values in the array are invalid."""
         tables = self.table.get(key)
         return {str(table.get("name")) for table in tables if isinstance(table, dict)} if isinstance(tables, list) else set()
 
@@ -256,12 +257,13 @@ class Section:
 
 
 def read_by(read: Callable, *limits: object, key: str = "", **more: object) -> Any:
-    """Returns a field that a method of a section reads, within these limits, from the given key or from the key with the field's name."""
+    """Returns a dataclass field that a method of `Section` reads within these limits. The key has the field's name, unless `key` is
+    given."""
     return field(metadata={"read": lambda section, name: read(section, key or name, *limits), "key": key}, **more)
 
 
 def line_of(key: str = "") -> Any:
-    """Returns a field that is the line of a key, or of its table."""
+    """Returns a dataclass field that has the line of a key, or the line of the table if no key is given."""
     return field(metadata={"read": lambda section, _: section.line(key), "is_line": True})
 
 
@@ -272,8 +274,8 @@ def keys_of(kind: type) -> list[str]:
 
 @dataclass(frozen=True)
 class Game:
-    """A game. `described` is the description with variables if `file` is ground. `instantiate` is the time limit for making it ground, in seconds.
-    With `aborts` its random matches may be aborted. `board` says how pages draw its boards."""
+    """A game. If `file` is a ground description, `described` may name the description with variables. `instantiate` is the time limit of
+    grounding in seconds. With `aborts`, random matches of the game may be aborted. `board` says how pages draw its boards."""
 
     name: str = read_by(Section.name, NAME, 40, FIRST)
     file: str = read_by(Section.path_of_file)
@@ -310,8 +312,8 @@ class Command:
 
 @dataclass(frozen=True)
 class Player:
-    """A player, and how many matches it may play at a time. It has an address, or a command that starts it. If it has withdrawn, it has a reason,
-    which may be empty."""
+    """A player, and how many matches it may play at a time. It has either an address or a command that starts it. If it has withdrawn,
+    `withdrawn` is the reason, which may be empty."""
 
     name: str = read_by(Section.name, PLAYER_NAME, 64)
     address: str = read_by(Section.address)
@@ -396,7 +398,7 @@ class Competition:
 
 
 def refuse_twice(sections: list[Section], key: str) -> None:
-    """Refuses a value of the key if an earlier section has the same value."""
+    """If two sections have the same value of a key, refuses the later one."""
     known = {}
     for section in sections:
         if type(value := section.table.get(key)) is str and known.setdefault(value, section) is not section:
@@ -404,7 +406,7 @@ def refuse_twice(sections: list[Section], key: str) -> None:
 
 
 def games_of(root: Section, clocks: dict[str, int | None]) -> tuple[Game, ...]:
-    """Returns the games. If a game lacks a clock, it gets the one in `clocks`."""
+    """Returns the games. A game without a clock gets the one in `clocks`."""
     found, sections = [], root.sections("games", MOST_GAMES)
     for section in sections:
         section.refuse_others(keys_of(Game))

@@ -15,12 +15,12 @@ from ggp_tools.printable import printable
 
 SILENT, LONG = "nothing was heard from it for {:.0f} s", "it sent a line of more than {:,} bytes"
 NO_PLAYER = "it sent {!r} instead of the player's process and address"
-# After a job has ended, its output is read for at most this many seconds, because a process that the job left behind may keep the pipe open.
+# After a job has ended, its output is read only for this many seconds, because a process that the job left behind may keep the pipe open.
 MOST_UNREAD = 2
-# A job has END_SECONDS to end its processes. It counts as lost if it sends nothing for LOST_SECONDS.
+# A job has END_SECONDS to end its processes. If it sends nothing for LOST_SECONDS, it counts as lost.
 END_SECONDS, LOST_SECONDS = 3, 10
-# A job ends its processes if this program sends nothing for this many seconds, so that the match can be started elsewhere. On this computer, a job
-# notices at once when this program has ended, and this program may be silent, for example while it is stopped by Ctrl-Z.
+# If this program sends nothing for this many seconds, a job ends its processes, so that the match can be started elsewhere. A job on this
+# computer notices at once when this program ends, so this program may be silent, for example while it is stopped by Ctrl-Z.
 SILENCE, HERE_SILENCE = 20, 10**9
 # The maximum length of the name of a node, and of a process with its address.
 MOST_OF_NAME = 300
@@ -29,36 +29,37 @@ JOB = pathlib.Path(__file__).with_name("job.py").absolute()
 
 
 class Lost(Exception):
-    """Why a job was given up."""
+    """The reason why a job was given up."""
 
 
 def is_player(text: str) -> bool:
-    """Returns whether a text is the process of a player and its address."""
+    """Returns whether a text has the form of a player's process id and address."""
     process, _, address = text.partition(" ")
     return bool(PROCESS.fullmatch(process)) and is_address(address)
 
 
 class Job:
-    """A run of `job.py` by a launcher on another computer, or on this one without a launcher. `take_output` gets its standard output, and `take_lines`
-    the lines of standard error that it passes on, several at a time. The job is up when it has sent the line that begins with the word `up`. The
-    computer on which it runs may be hostile."""
+    """A run of `job.py`: by a launcher on another computer, or without a launcher on this one. `take_output` is called with its standard
+    output. `take_lines` is called with the lines of standard error that the job passes on, several at a time. The job is up when it has
+    sent a line that begins with the word in `up`. The computer on which the job runs may be hostile."""
 
     def __init__(
         self, take_output: Callable[[bytes], Awaitable[None]], take_lines: Callable[[bytes], Awaitable[None]], up: str = "node", end_seconds: float = END_SECONDS
     ) -> None:
         self.take_output, self.take_lines, self.up, self.end_seconds = take_output, take_lines, up, end_seconds
         self.is_up, self.process, self.is_remote = asyncio.Event(), None, False
-        # What the job reports: the node, the process and the address of a player, and the exit status. Then the reason why the job was given up.
+        # What the job reports: the node; the process and the address of a player; the exit status. Then the reason why the job was given
+        # up.
         self.node, self.player, self.status, self.why = "", "", None, ""
-        # Whether the job has its task, and whether the task may go on after the local process of the job has ended.
+        # Whether the job has its task, and whether the task may continue after the local process of the job has ended.
         self.has_begun, self.goes_on = False, False
 
     def start(self, launcher: Sequence[str], task: dict[str, object] | None = None) -> None:
-        """Starts the job. The task `running` ends with it."""
+        """Starts the job. When it ends, the task `running` ends."""
         self.running = asyncio.create_task(self.run(launcher, task))
 
     def begin(self, task: dict[str, object]) -> None:
-        """Sends the job its command. No launcher needs to quote it."""
+        """Sends the job its command through standard input, so no launcher needs to quote it."""
         self.has_begun = True
         self.process.stdin.write(json.dumps(task).encode() + b"\n")
 

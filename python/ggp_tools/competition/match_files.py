@@ -29,7 +29,7 @@ if TYPE_CHECKING:
 # At most this many matches are checked together. Their files are in memory at the same time, so they have at most this many bytes in total, unless a
 # single match has more.
 TOGETHER, BYTES_TOGETHER = 250, 1 << 25
-# Only one batch with more bytes is checked at a time.
+# Only one batch at a time may have more bytes than this.
 LARGE = threading.Lock()
 
 
@@ -62,18 +62,19 @@ def batches(folder: Folder, matches: Iterable[Match]) -> Iterator[list[Match]]:
 
 
 def most_of_record(rules: bytes, size: int) -> int:
-    """Returns how many bytes a record of a game with these rules may have. This is computed only for a record of more than the usual size."""
+    """Returns how many bytes a record of a game with these rules may have. The limit is computed only if the record exceeds the usual
+    limit."""
     return USUAL_RECORD if size <= USUAL_RECORD else longest_record(rules)
 
 
 def record_bytes(folder: Folder, match: str, rules: bytes) -> bytes:
-    """Returns the record of a match. If the file is too long for its game, this returns just enough of it to show that."""
+    """Returns the record of a match. If the file is too long for its game, returns just enough bytes to show this."""
     file = folder.record(match)
     return file_bytes(file, most_of_record(rules, size_of(file)) + 2)
 
 
 def account_bytes(folder: Folder, match: str) -> bytes | None:
-    """Returns the call log of a match, or None if it is missing. If it is too long, this returns one byte more than the limit."""
+    """Returns the call log of a match, or None if it is missing. If it is too long, returns one byte more than the limit."""
     try:
         return file_bytes(folder.account(match), LONGEST_ACCOUNT + 1)
     except FileNotFoundError:
@@ -81,8 +82,8 @@ def account_bytes(folder: Folder, match: str) -> bytes | None:
 
 
 def fault_of_files(record: bytes, account: bytes | None, rules: bytes) -> str | None:
-    """Returns the reason why files cannot be passed to the referee, or None. It finds everything that would make the referee stop or that the referee
-    would skip."""
+    """Returns the reason why files cannot be passed to the referee, or None. Finds everything at which the referee would stop, and
+    everything that it would skip."""
     if account is None:
         return "its call log is missing"
     if len(account) > LONGEST_ACCOUNT:
@@ -133,7 +134,7 @@ def referee_faults(plan: "Plan", referee: Referee, game: str, records: Sequence[
 
 
 def check_of(plan: "Plan", match: Match, data: bytes, fault: str | None) -> Check:
-    """Returns the check of a match. If there is no fault, the referee has accepted the record."""
+    """Returns the check of a match. `fault` is None if the referee has accepted the record."""
     if fault:
         return Check(match, fault)
     record = read_record(data)
@@ -167,7 +168,7 @@ def checks(plan: "Plan", referee: Referee, game: str, matches: Sequence[Match], 
         else:
             left.append((match, record, account, key))
     faults = referee_faults(plan, referee, game, [record for _, record, _, _ in left], [account for _, _, account, _ in left]) if left else ()
-    # If the program or the rules have changed meanwhile, it is not known which version the referee used.
+    # If the program or the rules have changed in the meantime, it is unknown which version the referee used.
     is_same = rule and rule == sum_of_rule(plan, referee, game)
     for (match, record, _, key), fault in zip(left, faults):
         done[match.id] = check_of(plan, match, record, fault)

@@ -15,7 +15,8 @@ from ggp_tools.records.record import record_sum
 
 
 def line_of(plan: Plan, result: Result, description: str | None, known: Mapping[str, bytes]) -> tuple[str, bytes]:
-    """Returns the line of a match in matches.jsonl, after the checksum of everything that determines the line. A known line is not made again."""
+    """Returns the line of a match in matches.jsonl, preceded by the checksum of everything that determines the line. If the line is already
+    known, it is not made again."""
     match = result.match
     data, log = plan.read_record(match), plan.folder.whole_log(match.id)
     sums = {"record": record_sum(data), "rules": plan.rules[match.game].sum, "description": description}

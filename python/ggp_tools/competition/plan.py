@@ -31,8 +31,8 @@ PUT_BACK = "undo the change: once matches have been played, the plan can only gr
 
 @dataclass
 class Plan:
-    """A competition with its rules by game, its matches in the order of the schedule, the bytes of competition.toml, its history, and its rounds.
-    `known` is the number of matches that were planned before the plan grew, or None."""
+    """A competition with its rules by game, its matches in the order of the schedule, the bytes of competition.toml, its history, and its
+    rounds. If the plan has grown, `known` is the number of matches that were planned before, otherwise None."""
 
     folder: Folder
     competition: Competition
@@ -58,7 +58,7 @@ class Plan:
         return referee.taking(self.rules[game].is_large)
 
     def read_record(self, match: Match) -> bytes:
-        """Returns the record of a match. If the file is too long for its game, this returns just enough of it to show that."""
+        """Returns the record of a match. If the file is too long for its game, returns just enough bytes to show this."""
         return record_bytes(self.folder, match.id, self.rules[match.game].text)
 
 
@@ -77,7 +77,7 @@ def read_file(path: Path, most: int = -1) -> bytes:
 
 
 def read_toml_file(path: Path) -> bytes:
-    """Returns the bytes of a competition.toml, or one byte more than the limit if the file is too long."""
+    """Returns the bytes of a competition.toml. If the file is too long, returns one byte more than the limit."""
     return read_file(path, MOST_OF_COMPETITION + 1)
 
 
@@ -93,7 +93,7 @@ def not_planned(path: Path) -> Refused:
 
 
 def sums_text(sums: Mapping[str, str]) -> bytes:
-    """Returns a text with these checksums, by file name, in the format of `sha256sum`."""
+    """Returns the text of a file with these checksums, by file name, in the format of `sha256sum`."""
     return "".join(f"{digest}  {name}\n" for name, digest in sorted(sums.items())).encode("utf-8")
 
 
@@ -127,7 +127,7 @@ def count_of_matches(folder: Folder) -> int | None:
 
 
 def files_of_origin(plan: Plan) -> list[Path]:
-    """Returns the files from which, besides competition.toml, the schedule follows."""
+    """Returns the files, other than competition.toml, on which the schedule depends."""
     folder = plan.folder
     return [folder.planned, *history_files(folder), *([folder.key] if plan.history.key else []), *([folder.seeds] if plan.competition.seeds else [])]
 
@@ -142,7 +142,8 @@ def refused_plan(folder: Folder, path: Path) -> Unplanned:
 
 
 def schedule_of(folder: Folder, competition: Competition, rules: Mapping[str, Rules], history: History, most: int | None = None) -> Growing:
-    """Returns the schedule that follows from a competition, its history and its records. No round begins after the given number of matches."""
+    """Returns the schedule that follows from a competition, its history and its records. After `most` matches, no further round is
+    planned."""
     roles = {name: len(ground.roles) for name, ground in rules.items()}
     try:
         return grown(history, competition, roles, functools.partial(unverified_result, folder, competition, rules), most)
@@ -153,7 +154,7 @@ def schedule_of(folder: Folder, competition: Competition, rules: Mapping[str, Ru
 
 
 def loaded_games(folder: Folder, competition: Competition, referee: Referee) -> dict[str, Rules]:
-    """Returns the rules of each game, by name. If descriptions are invalid, raises one error for all of them."""
+    """Returns the rules of each game, by name. If descriptions are invalid, raises one error that lists them all."""
     rules_by_name, mistakes = {}, []
     for game in competition.games:
         path, program = folder.path / game.file, referee.taking(game.large)
@@ -196,7 +197,8 @@ def refuse_addresses(folder: Folder, competition: Competition) -> dict[str, str]
 
 
 def seeds_of(folder: Folder, competition: Competition) -> Path | None:
-    """Returns the file with the seeds from another competition, or None. Once matches have been played, this is the copy that `plan` made."""
+    """Returns the file with the seeds from another competition, or None. Once matches have been played, the file is the copy that `plan`
+    made."""
     if not competition.seeds or is_begun(folder) and folder.seeds.exists():
         return folder.seeds if competition.seeds else None
     path = folder.path / competition.seeds
@@ -204,8 +206,9 @@ def seeds_of(folder: Folder, competition: Competition) -> Path | None:
 
 
 def make_plan(path: str, referee: Referee, is_preview: bool = False) -> Plan:
-    """Writes the rules and the schedule of the competition in a directory, and returns the plan. Writes nothing in a preview, after an error, while
-    matches are being played, or if matches have been played and the schedule would not only grow."""
+    """Writes the rules and the schedule of the competition in a directory, and returns the plan. Writes nothing if this is a preview, if
+    there is an error, if matches are being played, or if matches have been played and the changes would do more than extend the
+    schedule."""
     folder = Folder(path)
     text = read_toml_file(folder.competition)
     competition = competition_of_file(folder.competition, text)
@@ -241,8 +244,8 @@ def make_plan(path: str, referee: Referee, is_preview: bool = False) -> Plan:
 
 
 def history_of(folder: Folder, competition: Competition, rules: Mapping[str, Rules]) -> tuple[History, dict[Path, bytes]]:
-    """Returns the history of a competition that has been played, and the last planned version if it must be stored. If competition.toml now asks for
-    other matches, the history ends with that version."""
+    """Returns the history of a competition that has been played, and the last planned version, if it must be stored. If competition.toml
+    now asks for other matches, the history ends with that version."""
     before, history = planned_before(folder, competition), read_history(folder, competition)
     if before is None or shape(before) == shape(competition):
         return history, {}
@@ -344,7 +347,7 @@ def read_plan(path: str, referee: Referee) -> Plan:
             refuse_lost_record(folder, growing, schedule)
             raise refused_plan(folder, folder.schedule)
     except Refused:
-        # The schedule differs if rounds were paired by records that do not count.
+        # If rounds were paired by records that do not count, the schedule differs.
         if is_by_rounds(competition):
             _, faults, misfits = check_records(Plan(folder, competition, rules, matches_in(schedule, competition)), referee)
             if wrong := [f"{folder.record(match)}: {why}" for match, why in {**faults, **misfits}.items()]:
@@ -354,14 +357,14 @@ def read_plan(path: str, referee: Referee) -> Plan:
         refuse_unchanged(history, competition)
     except Misfit as why:
         raise Refused(f"{folder.path}: {why}") from None
-    # The same bytes are the same competition, and parsing many matches takes long.
+    # If the bytes are the same, the competition is the same, and comparing many matches would take long.
     if is_begun(folder) and not (folder.planned.exists() and read_toml_file(folder.planned) == text):
         planned_before(folder, competition)
     return Plan(folder, competition, rules, growing.matches, text, history, growing.rounds.found)
 
 
 def refuse_lost_record(folder: Folder, growing: Growing, schedule: bytes) -> None:
-    """Refuses a schedule with a round that cannot be planned, because a match of the round before has no record."""
+    """Refuses a schedule with a round that cannot be planned, because a match of the previous round has no record."""
     number = len(growing.rounds.found)
     lost = [match.id for match in growing.of_round(number) if match.counts() and growing.result_of(match) is None]
     if lost and schedule.startswith(schedule_text(growing.matches)):
@@ -441,7 +444,7 @@ def order_again(path: str, referee: Referee, match_id: str, reason: str) -> Matc
         match = replaceable_match(plan, referee, match_id)
         history = replace(plan.history, again=(*plan.history.again, Again(plan.next_id(), match.id, reason)))
         schedule = schedule_of(plan.folder, plan.competition, plan.rules, history, len(plan.matches) + 1)
-        # The schedule is written last: after an interruption, `plan` writes it.
+        # The schedule is written last: if this is interrupted, `plan` writes the schedule.
         write_whole(plan.folder.again, again_text(history.again))
         write_whole(plan.folder.schedule, schedule_text(schedule.matches))
     return schedule.matches[-1]

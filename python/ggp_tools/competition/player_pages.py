@@ -89,7 +89,7 @@ def page_name(player: str) -> str:
 
 
 def standing_texts(table: Table) -> dict[str, str]:
-    """Returns a sentence with the rank, the mean goal and the rating of each player that has played."""
+    """Returns, for each player that has played, a sentence with its rank, its mean goal and its rating."""
     texts, lines = {}, table.standings()
     for rank, line in zip(table.ranks(), lines):
         mean = "none" if line.mean() is None else f"{line.mean():.2f}"
@@ -100,7 +100,7 @@ def standing_texts(table: Table) -> dict[str, str]:
 
 
 def role_rows(appearances: list[Appearance]) -> Iterator[tuple[str, str, list[str]]]:
-    """Yields each game and role of the player, with the goals and times in it."""
+    """Yields a row for each game and role of the player, with the goals and times."""
     by_role = grouped(appearances, lambda appearance: (appearance.result.match.game, appearance.role, appearance.role_name))
     for (game, role, name), own in sorted(by_role.items()):
         goals = [goal for appearance in own if (goal := appearance.goal()) is not None]
@@ -115,7 +115,7 @@ def longest_text(times: list[int | None]) -> str:
 
 
 def reason_of(error: str) -> str:
-    """Returns what an error means. An error of a log may be followed by its reason."""
+    """Returns the meaning of an error. In a log, a reason may follow the error."""
     kind = error.partition(" ")[0]
     if kind == SHORTAGE:
         return "the referee lacked a resource"

@@ -48,7 +48,7 @@ def ticks(least: int, most: int) -> range:
 
 
 def sampled(values: list[float]) -> list[tuple[int, float]]:
-    """Returns as many values as fit into a plot, each with its number counted from 1. The last one is among them."""
+    """Returns as many values as fit into a plot, including the last one, each with its number, counted from 1."""
     step = max(1, -(-len(values) // MOST_POINTS))
     return [(at + 1, value) for at, value in enumerate(values) if (len(values) - 1 - at) % step == 0]
 

@@ -21,8 +21,8 @@ MOST_STEPS, CLOSE = 100, 1e-8
 
 
 def groups(points: numpy.ndarray) -> list[list[int]]:
-    """Returns the largest groups of players in which a chain leads from each player to every other player, in the order of their first players. In a
-    chain, each player has points against the next one."""
+    """Returns the largest groups of players in which a chain leads from each player to every other player. In a chain, each player has
+    points against the next one. The groups are in the order of their first players."""
     leads = (points > 0) | numpy.eye(len(points), dtype=bool)
     # Each step doubles the length of the chains.
     for _ in range(len(points).bit_length()):

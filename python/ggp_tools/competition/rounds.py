@@ -46,7 +46,8 @@ class Scores:
         self.met: Counter[frozenset[str]] = Counter()
 
     def count_round(self, found: Round, withdrawn: Mapping[str, str], of_meeting: Mapping[Meeting, list[Result]]) -> None:
-        """Counts the pairs and the byes. If a match is not played or does not count because a player has withdrawn, it gives points like a bye."""
+        """Counts the pairs and the byes. A match that is not played, or does not count, because a player has withdrawn gives points like a
+        bye."""
         for bye in found.byes:
             self.byes[bye] += 1
             self.points[bye] += self.meeting
@@ -66,7 +67,8 @@ class Scores:
             self.goals[player] += result.counted()[role] or 0
 
     def buchholz(self, player: str) -> float:
-        """Returns the sum of the points of all opponents. An opponent counts as often as it was met."""
+        """Returns the sum of the points of all opponents. If the player has met an opponent several times, that opponent counts each
+        time."""
         return sum(self.points[opponent] for opponent in self.opponents[player])
 
     def swiss_order(self, player: str) -> tuple[float, float]:
@@ -74,7 +76,7 @@ class Scores:
 
 
 def rounds_of(competition: Competition) -> int:
-    """Returns how many rounds a competition has; 0 if it is not planned by rounds."""
+    """Returns how many rounds a competition has, or 0 if it is not planned by rounds."""
     form = competition.form
     if form.kind == KNOCKOUT:
         return (len(competition.players) - 1).bit_length()
@@ -98,7 +100,7 @@ def matches_to_come(competition: Competition, rounds: Sequence[Round]) -> int:
 
 
 def withdrawn_by(competition: Competition, rounds: Iterable[Round]) -> dict[str, str]:
-    """Returns the players that have withdrawn, or were withdrawn before one of these rounds, each with the reason."""
+    """Returns the players that have withdrawn, or that were withdrawn before one of these rounds, each with the reason."""
     return {name: why for found in rounds for name, why in found.absent} | competition.withdrawn()
 
 
@@ -125,8 +127,8 @@ def paired(order: Sequence[str], met: Counter[frozenset[str]]) -> list[tuple[str
 
 
 def exchange(pairs: list[tuple[str, str]], at: int, met: Counter[frozenset[str]]) -> None:
-    """Swaps a player of a pair with the nearest pair above, or else below, that makes two pairs that have not met. If there is no such pair, this
-    pair stays."""
+    """Exchanges a player of a pair with a player of the nearest pair above, or else below, if then neither pair has met before. If there is
+    no such pair, this pair stays."""
     first, other = pairs[at]
     for beside in (*range(at - 1, -1, -1), *range(at + 1, len(pairs))):
         high, low = pairs[beside]
@@ -140,7 +142,7 @@ def swiss_round(competition: Competition, number: int, scores: Scores, withdrawn
     order = sorted((player.name for player in competition.players if player.name not in withdrawn), key=scores.swiss_order)
     byes: tuple[str, ...] = ()
     if len(order) % 2:
-        # The lowest in the standings of the players with the fewest byes.
+        # Of the players with the fewest byes, the lowest in the standings gets the bye.
         byes = (min(reversed(order), key=lambda player: scores.byes[player]),)
         order.remove(byes[0])
     return Round(number, tuple(paired(order, scores.met)), byes)
@@ -264,8 +266,8 @@ def meetings(competition: Competition, found: Round) -> list[tuple[str, tuple[st
 
 
 def scores_of(competition: Competition, rounds: Sequence[Round], results: Iterable[Result], withdrawn: Mapping[str, str] | None = None) -> Scores:
-    """Returns the scores of these rounds. Uses only the results that count if these players have withdrawn. By default, these are the players that
-    competition.toml or the rounds name as withdrawn."""
+    """Returns the scores of these rounds. `withdrawn` has the players that have withdrawn, which determines the results that count. By
+    default, these are the players that competition.toml or the rounds name as withdrawn."""
     withdrawn = withdrawn_by(competition, rounds) if withdrawn is None else withdrawn
     scores, counted = Scores(competition), [result for result in results if not competition.is_void(result.match.players, withdrawn)]
     of_meeting = by_meeting(counted)

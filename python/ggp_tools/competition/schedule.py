@@ -20,9 +20,9 @@ ROW = re.compile(rb"([A-Za-z0-9_.-]{1,60})\t([A-Za-z0-9_.-]{1,40})\t([0-9]{1,5})
 
 @dataclass(frozen=True)
 class Match:
-    """A match: its id, its game, its clocks, its players' names in the order of the roles, and its round, if there are rounds. `again` is the match that
-    replaces it, with the reason, and `instead_of` the match that it replaces. `withdrawn` says which player has withdrawn, so that the match does not
-    count or is not played."""
+    """A match: its id, its game, its clocks, its players' names in the order of the roles, and its round, if there are rounds. If another
+    match replaces it, `again` is that match, and `reason` the reason; `instead_of` is the match that this one replaces. If the match does
+    not count or is not played because a player has withdrawn, `withdrawn` names the player."""
 
     id: str
     game: str
@@ -39,7 +39,7 @@ class Match:
         return not self.again and not self.withdrawn
 
     def why_not(self) -> str:
-        """Says why the match does not count. The text is empty if it counts."""
+        """Says why the match does not count. If it counts, the text is empty."""
         return self.withdrawn or self.again and f"{self.again} replaces it: {self.reason}"
 
     def line(self) -> str:
@@ -47,9 +47,9 @@ class Match:
 
 
 def circle_steps(count: int, roles: int, rounds: int) -> Iterator[tuple[int, ...]]:
-    """Yields for each block of matches the distance from the player of the first role to that of each role, in a circle of all players. A block has a
-    match for each place in the circle, so each player plays each role once. With two roles, each distance occurs once in a round. With more roles,
-    the distance is the one at which players have met least often."""
+    """Imagines the players in a circle, and yields for each block of matches the distances from the player of the first role to the players
+    of all roles. A block has one match for each place in the circle, so each player plays each role once. With two roles, each distance
+    occurs once in a round. With more roles, each distance is one at which players have met least often."""
     if roles == 1:
         yield from [(0,)] * rounds
         return
@@ -131,8 +131,8 @@ def refuse_too_many(competition: Competition, count: int) -> None:
 
 
 def id_of(competition: Competition, number: int, width: int, key: bytes) -> str:
-    """Returns the id of the match with a number, counted from 1. The number has at least as many digits as those of the matches that were planned
-    first. An id with a key cannot be guessed without the key."""
+    """Returns the id of the match with a number, counted from 1. The number has at least as many digits as the numbers in the first plan.
+    If the id is computed with a key, it cannot be guessed without the key."""
     counted = f"{competition.name}-{number:0{max(3, width)}}"
     digest = base64.b32encode(hmac.digest(key, counted.encode("ascii"), "sha256")).decode("ascii").lower() if key else ""
     return f"{counted}-{digest[:SECRET_LETTERS]}" if key else counted

@@ -16,7 +16,7 @@ class Slots:
         self.free = {player.name: player.concurrent for player in competition.players}
         self.rests_until = dict.fromkeys(self.free, 0.0)
         self.failed = dict.fromkeys(self.free, 0)
-        # When the last failed try ended.
+        # For each player, when its last failed try ended.
         self.failed_at = dict.fromkeys(self.free, 0.0)
         self.tries, self.wait = competition.tries, competition.wait
         # No match can begin before this time, unless a match ends.
@@ -38,8 +38,9 @@ class Slots:
         self.failed[player] = 0
 
     def count_failure(self, player: str, taken_at: float) -> bool:
-        """Records that the player did not answer for a match that took its slots at this time. Returns whether to ask it again. After several
-        failed tries in a row it is not asked again. If it was asked for several matches at the same time, that counts as one try."""
+        """Records that a player did not answer for a match that took its slots at `taken_at`. Returns whether to ask the player again,
+        which ends after several failed tries in a row. If the player was asked for several matches at the same time, that counts as one
+        try."""
         if taken_at <= self.failed_at[player]:
             return self.failed[player] < self.tries
         self.idle_until = 0.0

@@ -19,7 +19,7 @@ PLACE = re.compile(r" \(at line (\d+), column \d+\)")
 KEY = re.compile(r"\s*([A-Za-z0-9_-]+)")
 
 
-# The time that Python's parser takes for a dotted key grows with the square of the number of dots, so more dots are refused.
+# The time in which Python's parser reads a dotted key grows with the square of the number of dots, so more dots than this are refused.
 MOST_DOTS = 100
 # Each key, table and member of an array has one of these signs. Because each value takes memory, a file may have only this many signs, which suffice
 # for the longest schedule and the maximum number of players.
@@ -27,7 +27,7 @@ SIGNS, MOST_SIGNS = frozenset("=,["), 150_000
 
 
 class TomlFault(Exception):
-    """The reason why a text is not TOML, with the line and, if there is one, the key at the beginning of the line."""
+    """The reason why a text is not TOML, with the line and, if a key begins this line, the key."""
 
     def __init__(self, line: int, key: str, words: str) -> None:
         super().__init__(words)
@@ -50,8 +50,8 @@ def read_toml(text: str) -> tuple[dict, dict[Path, int]]:
 
 
 def refuse_too_many(text: str) -> None:
-    """Refuses a text that has more dots between two punctuation marks than a key may have, or more signs than a file may have. Python's parser reads
-    no further than the first unfinished string."""
+    """Refuses a text that has more dots between two punctuation marks than a key may have, or more signs than a file may have. Only the
+    text before the first unfinished string is checked, because Python's parser stops there."""
     line, dots, signs, end = 1, 0, 0, 0
     for token in TOKEN.finditer(text):
         if text[end : token.start()].strip():
@@ -90,7 +90,7 @@ def statements(text: str) -> Iterator[Statement]:
 
 
 def names_of(words: list[str]) -> Path:
-    """Returns the names in a dotted key, as Python's parser reads it."""
+    """Returns the names in a dotted key. Python's parser splits the key."""
     value, names = tomllib.loads(f"{''.join(words)} = 0"), ()
     while isinstance(value, dict):
         ((name, value),) = value.items()

@@ -15,7 +15,7 @@ from ggp_tools.descriptions.loading import Rules
 from ggp_tools.referee import Referee
 from ggp_tools.reporting import Reporter
 
-# Reports show this in place of the id of a match.
+# The word that replaces the id of a match in reports.
 NO_MATCH = "try"
 
 

@@ -37,8 +37,8 @@ MARKS = {
 
 @dataclass
 class Entry:
-    """An event, with its time (empty if unknown) and its role (None if the event concerns all roles). The journal and the log may be from two
-    computers whose clocks differ."""
+    """An event with its time, which is empty if unknown, and its role, which is None if the event concerns all roles. The journal and the
+    log may come from two computers whose clocks differ."""
 
     time: str
     role: int | None
@@ -47,7 +47,7 @@ class Entry:
 
 
 def marked(entries: list[Entry]) -> list[Entry]:
-    """Returns the entries, with a remark where the clock was set back."""
+    """Returns the entries, and adds a remark to each one before which the clock was set back."""
     remarked, before = [], {}
     for entry in entries:
         if entry.time and entry.time < before.get(entry.is_note, ""):
@@ -59,21 +59,21 @@ def marked(entries: list[Entry]) -> list[Entry]:
 
 
 def parts_at(notes: list[Entry], beginning: str) -> list[list[Entry]]:
-    """Splits notes before each note whose text begins with `beginning`."""
+    """Splits a list of notes before each note whose text begins with `beginning`."""
     starts = [at for at, note in enumerate(notes) if note.text.startswith(beginning)]
     return [notes[start:end] for start, end in itertools.pairwise([0, *starts, len(notes)])]
 
 
 def merged(*parts: list[Entry]) -> list[Entry]:
-    """Returns entries of the log and of the journal in the order of their times, or one part after the other if a clock was set back or a time is
-    unknown."""
+    """Merges entries of the log and of the journal by their times. If a clock was set back or a time is unknown, returns one part after the
+    other instead."""
     is_known = all(entry.time for part in parts for entry in part) and all(marked(part) == part for part in parts)
     return sorted(itertools.chain(*parts), key=lambda entry: entry.time) if is_known else list(itertools.chain(*parts))
 
 
 def in_order(notes: list[Entry], runs: list[list[Entry]], match_id: str) -> list[Entry]:
-    """Merges the notes of the journal and the runs of the log. Both are about one role. A run comes between the notes about its beginning and its
-    end. Notes about the player are placed by their times. The log may lack the first runs."""
+    """Merges the notes of the journal and the runs of the log, which are about one role. A run comes between the notes about its beginning
+    and its end. Notes about the player are placed by their times. The first runs may be missing from the log."""
     before, *begun = parts_at(notes, f"begin {match_id} ")
     if not begun:
         return [*notes, *sum(runs, [])]
@@ -138,13 +138,14 @@ class Explanation:
         return Entry(time, message.role, f"{text}. Message {message.number}: {message_of(message.message)}")
 
     def mark_of(self, message: Message) -> str | None:
-        """Returns the error that the record has for START or the last message. It is empty if there is no error, and None if there is no record."""
+        """Returns the error that the record has for START or for the last message. Without an error, the text is empty. Without a record,
+        returns None."""
         if not self.record or message.kind == PLAY or message.kind is None:
             return None
         return self.record["startMarks" if message.kind == START else "endMarks"][message.role]
 
     def mark_text(self, mark: str, kind: str) -> str:
-        """Explains an error of a record."""
+        """Explains an error in a record."""
         seconds = self.match.start if kind == START else self.match.play
         return f"{mark}: {MARKS[mark].format(seconds=seconds)}" if mark in MARKS else f"{mark}: not a legal move of its role in that state"
 
@@ -187,7 +188,7 @@ class Explanation:
         return [*retired, f"{goal}; {replaced} of {len(errors)} moves replaced", *forfeit]
 
     def lines(self, players: list[str]) -> Iterator[str]:
-        """Yields everything that is known about what these players did in the match."""
+        """Yields the lines of the explanation: everything that is known about what these players did in the match."""
         match = self.match
         who = ", ".join(f"{player} is {role}" for player, role in zip(match.players, self.roles))
         strikes, most = self.plan.competition.strikes, self.plan.competition.faults.replaced
@@ -198,7 +199,7 @@ class Explanation:
         for player in players:
             role = match.players.index(player)
             yield from ("", f"{player}, {self.roles[role]}:")
-            # Only the rows of one role are in the order of their times, because the players of a turn answer in any order.
+            # The rows of several roles are not in the order of their times, because the players of a turn answer in any order.
             of_role, *of_runs = ([entry for entry in entries if entry.role in (None, role)] for entries in (notes, *runs))
             yield from (f"{entry.time or '(no time)'} {entry.text}" for entry in marked(in_order(of_role, of_runs, match.id)))
             yield from self.outcome(role)

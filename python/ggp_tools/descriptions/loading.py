@@ -22,13 +22,13 @@ from ggp_tools.referee import BadRules, Referee
 FOLDER = pathlib.Path(__file__).resolve().parents[2]
 # The maximum lengths of a description, and of the text for players.
 MOST_BYTES, MOST_BYTES_FOR_PLAYERS = LARGE["bytes"], 1 << 20
-# The command and the file that precede the place of a sentence in a message.
+# The name of the command and of the file, which precede the place of a sentence in a message.
 PLACED = re.compile(r"ggp-instantiate: .*?: (?=line [0-9]+, column [0-9]+: )")
 STOPPED = re.compile(r"ggp-instantiate: stopped after ")
 
 
 class NoDescription(Exception):
-    """Why a text is not a description, in lines, with the place if it is known."""
+    """The reason why a text is not a description, in lines. If the place of the error is known, the reason includes it."""
 
 
 class Stopped(NoDescription):
@@ -66,7 +66,7 @@ def sentence_starts(text: bytes) -> list[int]:
 
 
 def look_at_sentences(text: bytes) -> None:
-    """Checks sentences as `ggp-instantiate` does before it grounds them."""
+    """Checks sentences in the same way as `ggp-instantiate` before it grounds them."""
     description = text.decode("latin-1")
     try:
         Relations(all_rules(kif.expressions(description))).refuse_dependence()
@@ -85,8 +85,8 @@ def run_module(name: str, *words: str, data: bytes | None = None) -> subprocess.
 
 
 def why_not(made: subprocess.CompletedProcess) -> str:
-    """Returns why a run of `ggp-instantiate` failed: the last line that it printed. If a limit was exceeded, the sentences that cost the most come
-    first."""
+    """Returns why a run of `ggp-instantiate` failed: the last line that it printed. If a limit was exceeded, the lines with the most
+    expensive sentences come before it."""
     lines = made.stderr.decode(errors="replace").strip().splitlines() or [f"ggp-instantiate ended with status {made.returncode}"]
     return "\n".join([*(line.strip() for line in lines[:-1] if line.startswith("  largest: ")), PLACED.sub("", lines[-1])])
 
@@ -161,7 +161,8 @@ def load_description(path: pathlib.Path, referee: Referee, tells_variables: bool
 
 
 def load_described(path: pathlib.Path, described: pathlib.Path, referee: Referee, tells_variables: bool) -> Rules:
-    """Returns the rules of a ground file. The text for players is made from the matching description with variables."""
+    """Returns the rules of a ground file. The text for players is made from `described`, the description of the same game with
+    variables."""
     ground = read_text(path)
     if has_variables(ground):
         raise NoDescription("it has variables, so it needs no other description")

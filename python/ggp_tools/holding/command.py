@@ -38,8 +38,8 @@ def arguments() -> argparse.Namespace:
 
 
 class Holding:
-    """Checks records against one description. `following` is None until the description is parsed. All records share its caches. After an interrupted
-    check these may be incomplete, so they are dropped."""
+    """Checks records against one description. `following` is None until the description has been parsed. All records share its caches. An
+    interrupted check may leave the caches incomplete, so they are dropped."""
 
     def __init__(self, text: str, name: str = "the description") -> None:
         self.text, self.name, self.following = text, name, None
@@ -68,7 +68,7 @@ class Holding:
         return SAME, f"the same: {counted(turns, 'turn')}"
 
     def game(self) -> Game:
-        """Parses the game. If the description is invalid, raises an error with the place."""
+        """Parses the game. If the description is invalid, the error includes the place."""
         try:
             return Game(self.text)
         except Refused as why:

@@ -37,15 +37,15 @@ class Game:
         self.ranks = {head: rank for rank, head in enumerate(dict.fromkeys(heads))}
 
     def position(self, state: State, moves: Sequence[Term] = ()) -> Position:
-        """Returns the position of a state, with a move of each role if `moves` are given. If a state has many more terms than earlier states, plans
-        the rules again."""
+        """Returns the position of a state, with a move of each role if `moves` are given. If a state has many more terms than earlier
+        states, the rules are planned again."""
         rows = grouped(state, functor_of)
         if not self.is_ground and (sizes := self.program.sizes.after(rows)):
             self.program = Program(self.program.relations, sizes)
         return self.program.position(state, list(zip(self.roles, moves)), rows)
 
     def compile(self) -> None:
-        """Compiles the functions that each turn uses, so that the first turn does not take longer."""
+        """Compiles the functions that each turn uses before the first turn, so that the first turn does not take longer than the others."""
         for relation, known in ((TERMINAL, ()), (LEGAL, (True, True)), (NEXT, (False,))):
             self.program.function(relation, known)
 

@@ -48,7 +48,8 @@ class Sizes:
         self.all_terms = float(sum(map(len, terms.values())) or FEW)
 
     def after(self, terms: Mapping[Relation, Collection[Term]]) -> "Sizes | None":
-        """Returns new sizes if a state has many more terms with some functor than earlier states; otherwise None."""
+        """If a state has many more terms with some functor than earlier states, returns sizes that include this state. Otherwise returns
+        None."""
         if all(len(rows) <= GROWTH * max(LEAST, len(self.terms.get(functor, ()))) for functor, rows in terms.items()):
             return None
         larger = {functor: rows for functor, rows in terms.items() if len(rows) > len(self.terms.get(functor, ()))}
@@ -105,8 +106,8 @@ class Sizes:
 
 
 def values_at(place: int, joined: Iterable[tuple[Rule, float, Mapping[str, float]]]) -> float:
-    """Estimates from the rules of a relation how many values an argument has. Variables in the argument count with all their values, and each
-    different term without variables counts as one."""
+    """Estimates from the rules of a relation how many values an argument has: the maximum over the rules with variables in this argument,
+    or the number of different arguments without variables, if that is greater."""
     most, constants = 1.0, set()
     for rule, _, values in joined:
         argument = rule.arguments[place]

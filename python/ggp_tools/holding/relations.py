@@ -22,7 +22,7 @@ class Relations:
         gdl.refuse_dependence(self.asks, self.source)
         self.circles, self.denying = {}, set()
         self.timely = {TRUE, DOES}
-        # The number of the cache of each function, and the caches of results that do not depend on the state.
+        # The number of the cache of each function, and the caches of the results that do not depend on the state.
         self.tables, self.fixed = {}, {}
         for group in gdl.components(self.asks):
             self.take(set(group))

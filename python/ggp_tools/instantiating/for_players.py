@@ -6,9 +6,9 @@ from ggp_tools.kif import Expression, grouped, head_of, relation, spelled
 
 
 def text_for_players(sentences: list[Expression], ground_heads: list[Expression]) -> str:
-    """Returns one sentence on each line, in canonical text and without `and`. Roles that rules derive become facts, in the order of the ground
-    description. If no sentence mentions `base`, adds a fact for each possible term of a state; if none mentions `input`, adds a fact for each
-    possible move. If a sentence used such a relation without defining it, added facts would change the game."""
+    """Returns one sentence on each line, in canonical text and without `and`. Roles that rules derive become facts, in the order of the
+    ground description. If no sentence mentions `base`, adds a fact for each possible term of a state; if none mentions `input`, adds a fact
+    for each possible move. If a sentence mentioned such a relation, the added facts could change the game."""
     mentioned = {relation(atom) for sentence in sentences for atom in atoms_of(sentence)}
     heads = grouped(ground_heads, relation)
     written = [*heads.get(("role", 1), ())]

@@ -6,7 +6,7 @@ from operator import attrgetter
 from ggp_tools.kif import Expression, grouped, place, put, relation
 from ggp_tools.gdl import GAME, Body, Literal, Rule, reached
 
-# The rules to ground, each with the variables whose values are the terms of an instance.
+# The rules to ground. Each has the list of its variables, whose values are the terms of an instance.
 Kept = Sequence[tuple[Rule, Sequence[str]]]
 # The number of a rule, and the terms of the instance.
 Instance = tuple[int, Sequence[Expression]]

@@ -24,8 +24,8 @@ FAR = 4
 MOST_WORK = 400_000
 # After this many seconds, intermediate results are reported as they arise.
 SOON = 2
-# If a description has at most this many instances, its unchanged form is tried first: that form gives the best result, and is factored within
-# seconds.
+# If a description has at most this many instances, it is tried unchanged first, because this gives the best result, and factoring it takes
+# only seconds.
 FEW_INSTANCES = 1 << 16
 
 
@@ -49,8 +49,8 @@ def forms(rules: list[Rule], is_whole: bool, is_split: bool) -> list[Form]:
 
 
 class Written(NamedTuple):
-    """A ground description: its sentences, each with the number of the sentence that it comes from, its text, the limited quantities, and the notes
-    at its top; the factored game, if any; and whether the large limits apply."""
+    """A ground description: its sentences, each with the number of the sentence from which it was made; its text; the limited quantities;
+    the notes at its top; the factored game, if any; and whether the large limits apply."""
 
     sentences: list
     text: str
@@ -203,8 +203,9 @@ class Making:
     # ---- Output ----------------------------------------------------------------------------------
 
     def written(self, rules: list[Rule]) -> Written:
-        """Returns the ground description of rules: unchanged if it is within the usual limits, else factored. If factoring to within the usual limits
-        takes too much work, the description stays unchanged within the large limits, unless it is long and can be made shorter."""
+        """Returns the ground description of rules: unchanged if it is within the usual limits, otherwise factored. If factoring to within
+        the usual limits takes too much work, the description stays unchanged within the large limits, unless it is long and can be made
+        shorter."""
         plain = self.as_written([(rule.sentence, grounding.sentence_of(rule)) for rule in rules])
         can_stay = self.wanted == WHERE_NEEDED and not plain.past()
         is_short = self.is_large and not plain.is_long() or not plain.is_large

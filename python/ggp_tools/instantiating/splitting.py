@@ -16,7 +16,8 @@ MOST_LITERALS, FEW_VARIABLES = 13, 3
 
 
 class Part(NamedTuple):
-    """A split of a body: the indices of the literals that get a relation, those of the others, and the variables that both share."""
+    """A split of a body: the indices of the literals that move to a new relation, the indices of the others, and the variables that both
+    share."""
 
     cost: tuple
     inside: tuple
@@ -25,7 +26,7 @@ class Part(NamedTuple):
 
 
 def split(rules: list[Rule]) -> list[Rule]:
-    """Returns the rules after splitting all parts that are worth it."""
+    """Splits off all parts that reduce the number of variables of a rule. Returns the resulting rules."""
     circular = Relations(rules).circular
     word = fresh("split", {name for rule in rules for name in atoms(rule.atoms())}, DIGITS)
     splitting = Splitting(word)
@@ -63,7 +64,7 @@ class Splitting:
 
 
 def best_part(rule: Rule) -> Part | None:
-    """Returns the part whose split leaves the fewest variables in the larger rule, or None if no split reduces their number."""
+    """Returns the part whose split leaves the fewest variables in the larger of the two rules, or None if no split reduces their number."""
     named = [frozenset(variables(literal.atom)) for literal in rule.body]
     binding = [them if literal.positive and not literal.same else frozenset() for literal, them in zip(rule.body, named)]
     head, count = frozenset(variables(rule.head)), len(rule.body)
