@@ -95,7 +95,7 @@ class BadInput(InFolder):
             except Refused:
                 self.assertIn(stop, (1, 2))
                 continue
-            # The rules on disk are the old ones, or those of the new description.
+            # The rules on disk are either the old ones or those of the new description.
             wrong = list(faults_of_descriptions(plan, plan.folder.description))
             self.assertEqual((plan.rules["game"].text == game.read_bytes(), bool(wrong)), (stop > 0, stop == 0), written)
 
@@ -200,7 +200,7 @@ class BadInput(InFolder):
     @unittest.skipUnless(shutil.which("gringo"), "gringo is not installed")
     def test_what_instantiate_says_of_rules_is_told(self):
         (self.folder / "coins.kif").write_text("(role a) (init (s 101)) (<= (goal a ?x) (true (s ?x))) (goal a 7)")
-        # The first line is a comment of the author, and not of `ggp-instantiate`.
+        # The first line is a comment by the author, not by `ggp-instantiate`.
         (self.folder / "one.kif").write_text("; a comment\n" + (GAMES / "buttons.kif").read_text())
         self.write(PLAYERS, [("coins", "coins.kif", "aborts = true"), ("one", "one.kif")])
         status, out, said = run(self.folder, "plan")
@@ -322,7 +322,7 @@ class BadInput(InFolder):
     def test_an_unwritable_folder(self):
         self.write(PLAYERS, [("tictactoe", GAMES / "tictactoe.kif")])
         self.folder.chmod(0o555)
-        # Without this capability, file permissions apply to root too.
+        # Without this capability, file permissions also apply to root.
         before = [] if os.geteuid() else ["setpriv", "--bounding-set=-dac_override"]
         words = [*before, sys.executable, COMMAND, "plan", "--program", program()]
         said = subprocess.run(words, cwd=self.folder, capture_output=True, text=True)

@@ -24,7 +24,8 @@ EXPLAIN = TOP / "python/ggp-explain-record"
 RECORD = TOP / "examples/records/countdown-3-second_version.record"
 REPORT = "One of the two is wrong: please report this, with the record and the rules."
 ERRORS = 'for each turn of moves a list with one text for each role: "", "TO", "CE", "RT", "IL ?", or "IL " and an expression in canonical text and lower case, of at most 8,192 bytes'
-# Changes to a lawful record of Countdown from 3, each with the explanation of the error that it causes. A place is a path of keys and indices.
+# Changes to a lawful record of Countdown from 3. Each comes with the explanation of the error that it causes. A place in the record is
+# given by a path of keys and indices.
 FAULTS = [
     ({("moves", 0, 0): "(take 3)"}, "illegal 0 0", "Turn 1, role red: the move is not legal.", "expected one of 2: (take 1), (take 2)", "found: (take 3)"),
     ({("moves", 0, 1): "(Take\n1)"}, "illegal 0 1", "Turn 1, role blue: the move is not legal.", "expected: noop", "found: (Take\\u{a}1)"),
@@ -63,7 +64,7 @@ def changed(record, places):
 
 
 def said_of(word: str, places: dict, rules: Game | None = None) -> list[str]:
-    """Returns the explanation of the fault of a record with these changes."""
+    """Returns the explanation of the error in a record with these changes."""
     return list(explanation(word, rules or Game(countdown(3)), json.dumps(changed(json.loads(RECORD.read_text()), places)).encode()))
 
 

@@ -28,7 +28,7 @@ SOUND = """(role ann) (role bob)
 (<= terminal over)
 (<= (goal ann 100) over) (<= (goal bob 0) over)
 """
-# Replacements in the description, or additions at its end, and the suspicious parts that follow.
+# Replacements in the description, or additions at its end, each with the suspicious parts that it causes.
 CHANGES = [
     ("(init", "(initial", [
         "line 2, column 1: `initial` is not a GDL keyword, and the game does not use it; did you mean `init`?: (initial (step 1))",
@@ -78,7 +78,7 @@ OPEN = """(player ann) (player bob) (<= (role ?r) (player ?r))
 (<= (goal ?r 100) (role ?r)) (<= (base (cell ?n)) (number ?n)) (<= (input ?r (go ?n)) (role ?r) (number ?n))
 (<= (number ?n) (succ ?n ?m)) (<= (number ?m) (succ ?n ?m))
 """
-# Sentences in the games of this repository that nothing in them uses.
+# Sentences of this repository's games that nothing else in the game uses.
 KNOWN = {"checkers": "`(kind _)`", "farmers": "`(ten _)`", "foxandhounds": "`(line _)`"}
 ENDLESS = "(role ann) (init (step 1)) (legal ann go) (<= (next (step 1)) (true (step 1))) (<= terminal (true (step 2))) (goal ann 1)"
 
@@ -213,7 +213,7 @@ class Game(InFolder):
         self.assertEqual(self.look("(" * 70 + "a" + ")" * 70)[1][-1], "the rest was not checked")
         said = ["game.kif is not accepted: it has 16,777,217 bytes; at most 1,048,576 are accepted, or 16,777,216 with --large", "the rest was not checked"]
         self.assertEqual(self.look(" x" * (1 << 23) + "x"), (1, said))
-        # Above the usual limit of bytes, the limits for large games apply.
+        # A description above the usual limit of bytes gets the limits for large games.
         status, lines = self.look(SOUND + ";" * (1 << 20), "--matches", "0")
         self.assertEqual((status, lines[0].startswith("game.kif is accepted: ")), (0, True), lines)
         status, lines = self.look(SOUND + "(goal ann 200)")
@@ -287,7 +287,8 @@ class Game(InFolder):
 
     @pytest.mark.gate
     def test_rules_that_are_too_deep_for_the_interpreter(self):
-        # Each level needs a nested call. Up to 20,000 are allowed, which is more than the program's usual limits need.
+        # Each level needs a nested call. Up to 20,000 nested calls are allowed, which is more than rules within the program's usual limits
+        # need.
         chain = "".join(f"(<= p{number} (or (or (or p{number + 1}))))\n" for number in range(21_000))
         status, lines = self.look(SOUND + chain + "p21000 (<= terminal (not p0))")
         self.assertEqual((status, lines[-1]), (0, "the interpreter cannot play it: its rules are nested too deeply"))

@@ -1,4 +1,4 @@
-"""Records are checked against the published description. The check finds each difference, and reports it with the sentence that shows it."""
+"""Checks of records against the published description. Each difference is found, and reported with the sentence that shows it."""
 
 import contextlib
 import json
@@ -116,7 +116,7 @@ class Followed(unittest.TestCase):
     def test_a_move_that_several_sentences_give_stands_by_the_first_that_was_seen_to(self):
         rules = "(role ann) (init s) (<= (legal ann go) (true t)) (legal ann stay) (<= (legal ann go) (true s)) (<= (next t) (true s)) (<= (next s) (true t))"
         turns = {"moves": [("go",)] * 3, "states": [["s"], ["t"], ["s"], ["t"]], "roles": ("ann",)}
-        # The first sentence of the game for `go` may not derive it here: then its place is unknown.
+        # The first sentence for `go` may not derive it in this state. Then the place of `go` is unknown.
         self.assertIsNone(self.words(rules, **turns, errors=[["TO"], [""], ["TO"]]))
         turns["moves"] = [("stay",), ("go",), ("stay",)]
         self.assertIsNone(self.words(rules, **turns, errors=[["TO"], [""], [""]]))
@@ -178,7 +178,7 @@ class Followed(unittest.TestCase):
 
 
 class Records(unittest.TestCase):
-    """A text that is not a record, or a record that lacks something, is neither accepted nor a bug of the command."""
+    """A text that is not a record, or lacks a part of a record, is not accepted, and is not reported as a bug of the command."""
 
     def setUp(self):
         self.record, self.holding = played(expressions(ONE_TURN_GROUND), 1), Holding(ONE_TURN)

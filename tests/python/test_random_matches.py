@@ -24,7 +24,7 @@ NO_GOAL = b"(role ann) (init (step 1)) (legal ann go) (<= (next (step 2)) (true 
 
 
 def desk_of(kept, changes=(), **answer):
-    """Returns a desk of the program that records the scripts, and changes some records by id, or gives this answer."""
+    """Returns a fake desk of the program that records the scripts. It changes some records by id, or gives this answer."""
 
     def desk(words, input, **more):
         kept.append((words, input.decode(), more))

@@ -137,7 +137,7 @@ class Told(InFolder):
         logs = {match: (self.folder / f"logs/{match}.jsonl").read_bytes() for match, *_ in self.schedule}
         held = [match for match, log in logs.items() if log.endswith(line_of(Other("held", {"match": match, "reason": None})))]
         self.assertEqual(held, [match for match, game, *_ in self.schedule if game != "countdown"])
-        # No call confirms that line, so `publish` leaves it out, and `check` compares the matches with their descriptions again.
+        # No call confirms that line, so `publish` leaves it out, and `check` again compares the matches with their descriptions.
         self.assertEqual([name for name, data in files.items() if name.startswith("cup/logs/") and b'"held"' in data], [])
         self.assertEqual(files["cup/rules/nim.players"], self.rules("nim.players"))
         assert_spoilt(self, files, SPOILINGS)
