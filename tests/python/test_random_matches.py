@@ -24,7 +24,8 @@ NO_GOAL = b"(role ann) (init (step 1)) (legal ann go) (<= (next (step 2)) (true 
 
 
 def desk_of(kept, changes=(), **answer):
-    """Returns a fake desk of the program that records the scripts. It changes some records by id, or gives this answer."""
+    """Returns a function that runs the desk of the program. It stores the scripts, changes some records by id, and replaces the values in
+    `answer`."""
 
     def desk(words, input, **more):
         kept.append((words, input.decode(), more))
