@@ -10,9 +10,9 @@ from ggp_tools.kif import KifFault, Refused, expressions, spelled, starts
 from ggp_tools.match_log import SHOWN
 from ggp_tools.printable import MORE
 
-# Legal moves are listed up to this many bytes.
+# The maximum number of bytes of a list of legal moves.
 MOST_BYTES = 400
-# The number of games in the cache.
+# The maximum number of games in the cache.
 MOST_GAMES = 4
 # The interpreter is slow. So a page lists the legal moves for at most MOST_TOLD illegal moves, and only if the rules have at most
 # MOST_RULES bytes.
@@ -37,7 +37,7 @@ def no_expression(answer: str) -> str:
 
 
 def listed(moves: list[str]) -> str:
-    """Describes the legal moves of a role: their number, and the moves themselves up to a limit of bytes."""
+    """Describes the legal moves of a role: their number, and as many of the moves as the limit of bytes allows."""
     bytes_left, shown = MOST_BYTES, []
     for move in moves:
         bytes_left -= len(move) + 2
@@ -77,8 +77,8 @@ class Illegal:
             return []
 
     def moves(self, role: int, turn: int, error: str) -> str:
-        """Describes the legal moves of a turn with an illegal move, and says for which roles or in which turn that move would be legal. The text is
-        empty for other errors, and if the interpreter cannot compute the legal moves."""
+        """For an illegal move, describes the legal moves of its turn, and says for which roles, or in which turn, the move would be legal.
+        For other errors, or if the interpreter cannot compute the legal moves, the text is empty."""
         legal = self.legal(role, turn) if error.startswith("IL ") and error != "IL ?" else []
         if not legal:
             return ""
@@ -97,7 +97,7 @@ class Whys:
         self.answers = answers
 
     def more(self, role: int, turn: int, error: str) -> str:
-        """Returns the text to append to an error. Turns are counted from 0."""
+        """Returns the text that is appended to an error. Turns are counted from 0."""
         if error == "IL ?":
             why = no_expression(self.answers[role, turn]) if (role, turn) in self.answers else ""
             return f": {why}" if why else ""

@@ -144,8 +144,8 @@ class Desk:
         await asyncio.to_thread(self.__exit__, *why)
 
     def reply(self, call: str) -> str:
-        """Makes the call in one row of a script, and returns the row with the reply. If an exception interrupts this method, the desk or the
-        connection to it ends."""
+        """Makes the call in one row of a script, and returns the row with the reply. If an exception interrupts this method, the desk ends,
+        or the connection to it is closed."""
         if not TEXT.fullmatch(call):
             raise ValueError(f"expected a call without line breaks, found {call!r}")
         with self.lock:
@@ -172,7 +172,8 @@ class Desk:
         return self.reply(" ".join(map(word, words)))
 
     def open(self, id_: str, players: Sequence[str], *, game: int = 0, start: int = 10, play: int = 10, strikes: int = 0) -> None:
-        """Opens a match of these players, one for each role. The clocks, in seconds, only go into the record: the caller measures the time."""
+        """Opens a match of these players, one for each role. The clocks, in seconds, are only stored in the record: the caller measures the
+        time."""
         self.make("strict", id_, game, start, play, strikes, *players)
 
     def next(self, id_: str, role: int) -> Owe | Hold | Over:

@@ -1,4 +1,4 @@
-"""Parses the sentences of a game description into rules without `or` and `and`, and computes which relations depend on which."""
+"""Parses the sentences of a game description into rules without `or` and `and`, and computes the dependencies between relations."""
 
 import itertools
 import math
@@ -64,7 +64,7 @@ def must_be_term(expression: Expression) -> None:
 
 
 def form(name: str, count: int | None) -> str:
-    """Returns the form of an atomic sentence with this number of arguments."""
+    """Returns the form of an atomic sentence with this name and this number of arguments."""
     return name if count is None else f"({' '.join([name] + ['_'] * count)})"
 
 
@@ -155,7 +155,8 @@ def parted(sentence: Expression) -> tuple[Expression, Expression]:
 
 
 def rules_of(number: int, sentence: Expression, names: Iterator[str]) -> list[Rule]:
-    """Returns the rules of one sentence. If there are too many ways to satisfy its `or`s, each `or` becomes a relation with one of these names."""
+    """Returns the rules of one sentence. If there are too many ways to satisfy its `or`s, each `or` that allows it becomes a relation with
+    one of these names."""
     head, body = parted(sentence)
     ways, rules = [ways_of(literal) for literal in body], []
     if math.prod(map(len, ways)) > FEW_WAYS:
@@ -197,8 +198,8 @@ def all_rules(sentences: Sequence[Expression], of_one: Callable = rules_of) -> l
 
 
 def refuse_dependence(asks: Mapping[Relation, Iterable[Relation]], source: Callable[[Relation, Relation], int]) -> None:
-    """Refuses the dependencies that the referee refuses: `legal`, `goal` and `terminal` must not depend on moves, and `role` and `init` must not
-    depend on a state or moves. `source` returns the sentence in which a relation uses another."""
+    """Refuses the dependencies that the referee refuses: `legal`, `goal` and `terminal` must not depend on moves, and `role` and `init`
+    must not depend on a state or moves. `source` returns the sentence in which one relation uses another."""
     moving, fixed = "let `next` record what the moves did, and read that with `true`", "it must be known before the first state"
     first = [("init", ["true", "does"], fixed), ("role", ["true", "does"], fixed)]
     for name, others, advice in [("legal", ["does"], moving), ("goal", ["does"], moving), ("terminal", ["does"], moving), *first]:
@@ -241,7 +242,8 @@ def reached(asks: Mapping[Relation, Iterable[Relation]], relations: Iterable[Rel
 def components(graph: Mapping[Expression, Iterable[Expression]]) -> list[list[Expression]]:
     """Returns the strongly connected components of a graph, each as a list. Each component comes after the components to which it has
     edges."""
-    # Tarjan's algorithm without recursion. The index of a node on the stack is its position there. Nodes of finished components have a higher index.
+    # Tarjan's algorithm without recursion. The index of a node is its position on the stack. Nodes of finished components have a higher
+    # index.
     lows, stack, components_found = {}, [], []
     for start in graph:
         open_nodes = [] if start in lows else [(start, iter(graph[start]), len(stack))]
@@ -282,7 +284,7 @@ class Relations:
         self.circular = {relation for group in groups for relation in group if len(group) > 1 or relation in self.asks[relation]}
 
     def unsettled(self) -> set[Relation]:
-        """Returns the relations that the grounder cannot evaluate: they depend on the state, on moves, or on their own negation."""
+        """Returns the relations that the grounder cannot evaluate, because they depend on the state, on moves, or on their own negation."""
         first = {("true", 1), ("does", 2)}
         first |= {head for head, denied in self.denies.items() for other in denied if self.group.get(other) == self.group[head]}
         asked_by = {}

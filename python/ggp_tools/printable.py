@@ -1,4 +1,4 @@
-"""Makes text from other programs and files safe for terminals and for the files that commands write: printable ASCII of limited length."""
+"""Makes text from other programs and files safe to print and to store: printable ASCII of limited length."""
 
 import re
 
@@ -15,7 +15,7 @@ def printable(text: str, most: int = MOST_OF_LINE) -> str:
 
 
 def message_of(text: str) -> str:
-    """Returns at most 1,000 characters of another program's line."""
+    """Shortens a line of another program's output to 1,000 characters, and makes it printable."""
     return printable(text, MOST_SHOWN)
 
 

@@ -1,4 +1,4 @@
-"""Runs other programs to their ends, and describes how they ended."""
+"""Runs other programs and waits until they end. Describes how they ended."""
 
 import contextvars
 import os
@@ -15,7 +15,7 @@ APART = contextvars.ContextVar("APART", default=False)
 
 
 def run_whole(words: Sequence[str], **more: object) -> subprocess.CompletedProcess:
-    """Runs a program to its end, and returns its output."""
+    """Runs a program until it ends, and returns its output."""
     before = (*WITH_PARENT, str(os.getpid())) if APART.get() else ()
     ran = subprocess.run([*before, *words], capture_output=True, start_new_session=APART.get(), **more)
     ran.args = words

@@ -22,7 +22,7 @@ if TYPE_CHECKING:
 
 PROGRAM = "ggp_manager"
 LAWFUL = "lawful"
-# With this option, verdicts are JSON, exit status 1 means no, and all errors have a greater exit status.
+# With this option, verdicts are JSON. Exit status 1 means a negative verdict, and all errors have a greater exit status.
 JSON, NO = "--json", 1
 VERSION_LINE = re.compile(rb"ggp_manager [0-9]+\.[0-9]+\.[0-9]+\n")
 # The first version that writes logs in JSON.
@@ -63,7 +63,7 @@ def find_program(given: str | None) -> str:
 
 
 def has_events(version: bytes) -> bool:
-    """Returns whether this version of the referee, as printed by `--version`, writes the current log format."""
+    """Returns whether the referee writes the current log format. `version` is what it prints for `--version`."""
     return tuple(map(int, version.split()[1].split(b"."))) >= FIRST_WITH_EVENTS
 
 
@@ -106,8 +106,8 @@ def read_objects(said: subprocess.CompletedProcess) -> list[dict] | None:
 
 
 class Referee:
-    """Runs the referee at a path, with the limits for large games or the usual ones. Options are written as `--name=FILE`, because the name of a file
-    may begin with a hyphen."""
+    """Runs the referee at a path, with the usual limits or with those for large games. Options are written as `--name=FILE`, because the
+    name of a file may begin with a hyphen."""
 
     def __init__(self, path: str, is_large: bool = False) -> None:
         self.path, self.is_large = path, is_large
@@ -176,7 +176,7 @@ class Referee:
             raise unchecked(run, name or rules_path)
 
     def verdicts(self, rules_path: pathlib.Path | str, records: Sequence[bytes]) -> list[str]:
-        """Returns the verdict of `verify` for each record, in words. Each record is one line, which begins with `{`."""
+        """Returns the verdict of `verify` for each record, as text. Each record is one line that begins with `{`."""
         run = self.call("verify", "--lines", JSON, *self.rules_words(rules_path), data=b"".join(records))
         verdicts = [LAWFUL if verdict["verdict"] == LAWFUL else f"not lawful: {verdict['fault']}" for verdict in read_objects(run) or ()]
         if len(verdicts) != len(records) or run.returncode != (0 if verdicts.count(LAWFUL) == len(verdicts) else NO):

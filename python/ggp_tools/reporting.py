@@ -1,4 +1,4 @@
-"""Reports the progress of matches: a line when each begins and ends, and on a terminal the progress of all of them."""
+"""Reports the progress of matches: a line when a match begins and when it ends, and on a terminal also the progress of all matches."""
 
 import errno
 import os
@@ -107,7 +107,7 @@ class Reporter:
         self.line(f"begin {match.id} {match.game} {' '.join(match.players)}{on_host}")
 
     def ends(self, result: Result, seconds: float) -> None:
-        """Reports the goal of each player, the number of its replaced moves, and forfeits with their reason."""
+        """Reports the goal of each player, how many of its moves were replaced, and any forfeits with the reasons."""
         match = result.match
         goals = result.goals or ["none"] * len(match.players)
         parts = [", ".join(f"{player} {goal}" for player, goal in zip(match.players, goals))]

@@ -1,4 +1,4 @@
-"""Reads and writes files, including compressed ones, and standard streams, and formats errors."""
+"""Reads and writes files, which may be compressed, and standard streams. Formats error messages."""
 
 import argparse
 import contextlib

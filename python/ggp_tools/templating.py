@@ -27,7 +27,7 @@ def end_without(missing: ImportError) -> typing.NoReturn:
 
 
 def rows_of_text(data: bytes) -> "markupsafe.Markup":
-    """Returns HTML for a text that has several rows."""
+    """Returns HTML for a text of several rows."""
     import markupsafe
 
     return markupsafe.Markup("\n").join(map(visible, data.decode("latin-1").splitlines()))
@@ -79,7 +79,7 @@ def joined(parts: Sequence["markupsafe.Markup"]) -> "markupsafe.Markup":
 
 @functools.cache
 def macros(name: str) -> typing.Any:
-    """Returns the macros of a template. They return HTML."""
+    """Returns the macros of a template. Each macro returns HTML."""
     return environment().get_template(f"{name}.html").module
 
 

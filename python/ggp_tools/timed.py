@@ -6,7 +6,7 @@ from collections.abc import Iterator
 
 
 class Late(Exception):
-    """The processor time is used up."""
+    """The limit of processor time has been reached."""
 
 
 def late(signal_number: int, frame: object) -> None:

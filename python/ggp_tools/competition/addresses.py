@@ -1,4 +1,4 @@
-"""The addresses of the players: which addresses the system refuses, and which lead to the same player."""
+"""Finds the addresses of the players: which of them the system refuses, and which lead to the same player."""
 
 import errno
 import ipaddress
@@ -12,13 +12,13 @@ from ggp_tools.competition.competition_file import Competition, Mistake, Player
 # The time limit of all lookups together, in seconds, because a resolver may not answer.
 SECONDS = 10
 LOOPBACK = {4: "127.0.0.1", 6: "::1"}
-# An address, with the interface if it needs one, and a port.
+# An address and a port. If the address needs an interface, it includes the interface.
 Place = tuple[str, int]
 
 
 def address_of(resolved: tuple) -> str:
-    """Returns an address from `getaddrinfo` in canonical form: an IPv4 address in IPv6 notation becomes IPv4, and the unspecified address becomes the
-    loopback address."""
+    """Returns an address from `getaddrinfo` in canonical form. An IPv4 address in IPv6 notation becomes an IPv4 address, and the
+    unspecified address becomes the loopback address."""
     address = ipaddress.ip_address(resolved[0].partition("%")[0])
     address = getattr(address, "ipv4_mapped", None) or address
     text = LOOPBACK[address.version] if address.is_unspecified else str(address)
@@ -26,7 +26,7 @@ def address_of(resolved: tuple) -> str:
 
 
 def addresses_of(host: str, flags: int = 0) -> list[str]:
-    """Returns the addresses of a host. There may be none."""
+    """Returns the addresses of a host. The list may be empty."""
     try:
         return [address_of(resolved) for *_, resolved in socket.getaddrinfo(host.strip("[]"), None, type=socket.SOCK_STREAM, flags=flags)]
     except (OSError, UnicodeError):
@@ -40,7 +40,7 @@ def looked_up(hosts: Iterable[str]) -> dict[str, list[str]]:
     def look_up(name: str) -> None:
         addresses[name] = addresses_of(name)
 
-    # A thread whose resolver does not answer continues to run, but does not keep the process alive.
+    # If a resolver does not answer, its thread continues to run, but does not keep the process alive.
     threads = [threading.Thread(target=look_up, args=(host,), daemon=True) for host, numeric in addresses.items() if not numeric]
     until = time.monotonic() + SECONDS
     for thread in threads:
@@ -51,7 +51,7 @@ def looked_up(hosts: Iterable[str]) -> dict[str, list[str]]:
 
 
 def are_same(one: str, other: str) -> bool:
-    """Returns whether two texts HOST:PORT have an address in common now. The hosts are looked up only if the ports are the same."""
+    """Returns whether two texts HOST:PORT currently have an address in common. The hosts are looked up only if the ports are the same."""
     (host, _, port), (other_host, _, other_port) = one.rpartition(":"), other.rpartition(":")
     if int(port) != int(other_port):
         return False
@@ -60,7 +60,7 @@ def are_same(one: str, other: str) -> bool:
 
 
 def refusal(place: Place) -> str:
-    """Returns why the system refuses connections to an address, or an empty text. Nothing is sent."""
+    """Returns the reason why the system refuses connections to an address, or an empty text. This sends nothing."""
     address = ipaddress.ip_address(place[0])
     if address.is_multicast:
         return "a multicast address accepts no connection"

@@ -97,8 +97,8 @@ def contents(plan: Plan, referee: Referee, results: list[Result], pages: Iterabl
 
 
 def publish(plan: Plan, referee: Referee, results: list[Result], path: pathlib.Path, known: Known) -> str:
-    """Writes the archive, and returns its checksum. The same files always give the same archive. Pages of matches that already exist are not made
-    again."""
+    """Writes the archive, and returns its checksum. The same files always give the same archive. If the page of a match already exists, it
+    is not made again."""
     pages = Pages(plan, True, known).write(results)
     with written_whole(path) as file:
         files = with_sums(contents(plan, referee, results, pages, known))
@@ -165,7 +165,7 @@ def faults_of_files(plan: Plan, referee: Referee, results: list[Result]) -> Iter
 
 
 def faults_of_matches(plan: Plan, referee: Referee) -> tuple[list[Result], list[str]]:
-    """Returns the results, and the errors in records, call logs and match logs."""
+    """Returns the results of the matches, and the errors in their records, call logs and match logs."""
     results, faults, misfits = check_records(plan, referee)
     checked = results | faults | misfits
     # GAPS.tsv is compared later.
@@ -192,8 +192,8 @@ def version_of(folder: pathlib.Path) -> str:
 
 
 def check_archive(path: pathlib.Path, referee: Referee) -> tuple[list[str], str]:
-    """Returns the errors in an archive, as lines of printable ASCII of limited length. If there are none, also returns a sentence about the
-    checks."""
+    """Returns the errors in an archive, as lines of printable ASCII of limited length. If there are no errors, also returns a sentence
+    about the checks."""
     try:
         with tempfile.TemporaryDirectory() as empty:
             try:

@@ -19,7 +19,7 @@ if TYPE_CHECKING:
     from ggp_tools.competition.results import Result
     from ggp_tools.competition.schedule import Match
 
-# The first call of a log, and the calls for a role: the one that asks for its next message, and the one with its answer.
+# The first call of a log, and the calls for a role: the call that asks for the role's next message, and the call with the role's answer.
 OPENING = re.compile(rb"0\t(?:open|(strict)) ([^ \t]+) \d+ (\d{1,5}) (\d{1,5})([^\t]*)\topened")
 NEXT = re.compile(rb"(\d+)\tnext ([^ \t]+) (\d+)\t(?:owe (\d+) ([^ \t]+) ?([^\t]*)|(hold \d+|over))")
 ANSWER = re.compile(rb"(\d+)\t(submit|miss) ([^ \t]+) (\d+) (\d+)(?: ([^\t]*))?\ttaken")
@@ -50,7 +50,7 @@ ERRORS = {"silent": NO_TIME, "broken": BROKEN}
 
 
 def lines_of(account: bytes) -> Iterator[bytes]:
-    """Yields the lines of a call log one by one, since there may be many."""
+    """Yields the lines of a call log one by one, because there may be many."""
     return (line.removesuffix(b"\n") for line in io.BytesIO(account))
 
 
@@ -73,7 +73,7 @@ class Asked:
         return match == self.match and int(line) == int(role) + 1 and role not in self.over
 
     def may_hold(self, role: bytes, hold: bytes) -> bool:
-        """Counts a reply that makes a role wait. Returns whether a referee would ask this often for the role in this round."""
+        """Counts a reply that makes a role wait. Returns whether a referee could ask this often for the role in this round."""
         before, count = self.holds.get(role, (hold, 0))
         self.holds[role] = hold, count + 1 if before == hold else 1
         return self.holds[role][1] <= MOST_HOLDS + self.clocks[hold != b"hold 0"] + 2 * self.roles
@@ -129,7 +129,7 @@ class Exchange(NamedTuple):
 
 
 def unescaped(text: bytes | None) -> str:
-    """Returns a text of a call log, with a character for each byte."""
+    """Returns a text of a call log, in which each character stands for a byte."""
     return ESCAPED.sub(lambda escape: chr(int(escape[1], 16)), (text or b"").decode("ascii", "replace"))
 
 

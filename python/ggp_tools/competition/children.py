@@ -16,7 +16,7 @@ from ggp_tools.processes import WITH_PARENT, ended_words
 from ggp_tools.referee import Referee
 
 MOST_AT_ONCE = 1 << 16
-# At most this many players are sent ABORT at the same time.
+# ABORT is sent to at most this many players at the same time.
 MOST_ABORTS = 1_024
 # A process may reach its time limit and still seem to be running. Then it has SOON more seconds to send output. If it has ended, its output
 # may take LATE more seconds to arrive.
@@ -63,7 +63,7 @@ async def started(words: list[str], ends_itself: bool = False) -> AsyncIterator[
 
 @dataclass
 class Done:
-    """A process that has ended, with its standard output and error. The status is None if the process ran out of time."""
+    """A process that has ended, with its standard output and its standard error. If the process ran out of time, the status is None."""
 
     status: int | None
     output: bytes
@@ -80,7 +80,7 @@ class Done:
 
 
 async def run(words: list[str], seconds: float | None = None) -> Done:
-    """Runs a process to its end. It is killed when its time is over, or if the caller is cancelled."""
+    """Runs a process until it ends. It is killed when its time is over, or if the caller is cancelled."""
     began = time.monotonic()
     async with started(words) as (process, _):
         # The empty input closes the pipe.

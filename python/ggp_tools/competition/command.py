@@ -1,4 +1,4 @@
-"""The command line of `ggp_competition`. Because loading takes long, a command loads only the modules that it needs."""
+"""The command line of `ggp_competition`. Loading modules takes long, so a command loads only those that it needs."""
 
 import argparse
 import os
@@ -103,7 +103,8 @@ def write_matches(plan: Plan, results: list[Result], known: Known | None = None)
 
 
 def known_results(plan: Plan, referee: Referee, known: Known | None) -> tuple[list[Result], bool]:
-    """Returns the results that count, in the order of the schedule, and whether there are records that do not count. Reports why these do not."""
+    """Returns the results that count, in the order of the schedule, and whether there are records that do not count. Reports why those do
+    not count."""
     results, faults, misfits = check_records(plan, referee, known)
     for match, why in {**faults, **misfits}.items():
         print(f"ggp_competition: {match} does not count: {why}", file=sys.stderr)
@@ -258,7 +259,7 @@ def play_planned(plan: Plan, asked: argparse.Namespace, referee: Referee) -> int
 
 
 def run_table(asked: argparse.Namespace, referee: Referee) -> int:
-    """Prints and writes the table of a competition, or one table of several."""
+    """Prints the table of a competition, or one table of several competitions, and writes it to files."""
     if asked.to and len(asked.folder) == 1:
         raise Refused("--to: only a table of several directories can be written elsewhere")
     plans = [read_plan(folder, referee) for folder in asked.folder]
@@ -320,7 +321,7 @@ def run_publish(asked: argparse.Namespace, referee: Referee) -> int:
         missing, left = len(without_record(plan, results)), rounds_left(plan)
         faults = []
         if missing and (is_faulty or not asked.gaps):
-            # A wrong record is not a gap: you must play the match again or correct the record.
+            # A wrong record is not a gap. It must be corrected, or the match must be played again.
             faults = [f"{counted(missing, 'match', 'has', 'have')} no lawful record{'' if is_faulty else '; `--gaps` publishes the others'}"]
         elif left and not asked.gaps:
             faults = [f"{left} of {left + len(plan.rounds)} rounds are not planned yet; `--gaps` publishes without them"]
@@ -348,7 +349,7 @@ def run_why(asked: argparse.Namespace, referee: Referee) -> int:
     from ggp_tools.competition.why import explanation
 
     for line in explanation(read_plan(asked.folder, referee), asked.match, asked.player):
-        # The directory may come from an archive, whose journal and logs may have any bytes.
+        # The directory may come from an archive. In this case, its journal and logs may contain any bytes.
         say(printable(line))
     return 0
 
@@ -389,7 +390,7 @@ COMMANDS = {
 def main() -> int:
     ready_streams()
     asked = arguments(sys.argv[1:])
-    # An archive that can't be read, or whose check is interrupted, has not failed the check.
+    # If an archive can't be read, or its check is interrupted, it has not failed the check.
     interrupted = 3 if asked.run is run_check else 1
     try:
         referee = Referee(find_program(asked.program))

@@ -24,20 +24,20 @@ MOST_OF_COMPETITION = 4 << 20
 # The maximum number of matches at a time, for a player and for a launcher.
 MOST_AT_A_TIME = 1_024
 MOST_SECONDS, MOST_STRIKES, MOST_PLAYERS, MOST_GAMES, MOST_ROUNDS, MOST_PORT = 86_400, 255, 1_000, 1_000, 1_000, 65_535
-# When a player with a command is restarted: if it is dead, for each match, or never.
+# When a player with a command is restarted: when it is dead, for each match, or never.
 RESTARTS = WHEN_DEAD, EACH_MATCH, NEVER = "when_dead", "each_match", "never"
 PORT = "{port}"
 RUNS_ELSEWHERE = "a program that runs its arguments on another machine"
 MEMORY = re.compile("[1-9][0-9]{0,5}[KMGT]")
 MOST_PROCESSORS, MOST_START_SECONDS, MOST_RATING = 4_096, 3_600, 10_000
-# The default time limit for making a description ground, in seconds, and the maximum.
+# The default time limit for grounding a description, in seconds, and the maximum.
 INSTANTIATING, MOST_INSTANTIATING = 60, 1_000_000
 # The forms that plan each round from the results of the previous one.
 ROUND_KINDS = SWISS, KNOCKOUT = "swiss", "knockout"
-# The keys of each kind besides `kind`.
+# For each kind, its keys other than `kind`.
 KINDS = {"round_robin": ("rounds",), "gauntlet": ("rounds", "one"), "schedule": ("lines",), SWISS: ("rounds", "final"), KNOCKOUT: ()}
 ABSENT = ("leave", "play")
-# What happens to the finished matches of a withdrawn player: they count, or they do not.
+# Whether the finished matches of a withdrawn player count.
 WITHDRAWN_RESULTS = KEEP, VOID = "keep", "void"
 REASON = re.compile(r"(?! )[\x20-\x7e]{1,200}(?<! )")
 # How the ids of the matches are made.
@@ -126,7 +126,7 @@ class Section:
         return kind(**{of.name: of.metadata["read"](self, of.name) for of in fields(kind) if of.name not in given and "read" in of.metadata}, **given)
 
     def part(self, key: str, kind: type, default: object = None) -> Any:
-        """Returns a table within this one as an object of this class, or the default if it is missing."""
+        """Returns a table within this table as an object of this class. If it is missing, returns the default."""
         if key not in self.table:
             return default
         section = self.section(key)
@@ -139,7 +139,8 @@ class Section:
                 self.mistake(key, f"this key is now {RENAMED[key]}" if RENAMED.get(key) in keys else f"no such key; expected one of {', '.join(keys)}")
 
     def value(self, key: str, kind: type, what: str, default: Any) -> Any:
-        """Returns the value of the key, or the default if it is missing or of another kind. If there is no default, the key must exist."""
+        """Returns the value of the key. If the key is missing or its value is of another kind, returns the default. Without a default, the
+        key must exist."""
         if key not in self.table:
             if default is None:
                 self.mistake(key, "the key is missing")
@@ -150,7 +151,8 @@ class Section:
         return self.table[key]
 
     def text(self, key: str, default: str | None = None, what: str = "", is_valid: Callable[[str], object] = bool) -> str | None:
-        """Returns the text of the key, or the default if it is missing or not a text. If `what` is given, the text must be valid."""
+        """Returns the text of the key. If the key is missing or its value is not a text, returns the default. If `what` is given, the text
+        must be valid."""
         found = self.value(key, str, "a text in quotes", default)
         if what and found is not None and found is self.table.get(key) and not is_valid(found):
             self.expected(key, what, found)
@@ -177,7 +179,7 @@ class Section:
         return self.text(key, None, f"a name of 1 to {longest} letters, digits, `-`, `_` and `.`{more}", form.fullmatch)
 
     def reason(self, key: str) -> str | None:
-        """Returns a reason: an empty one for `true`, None for `false` or if the key is missing."""
+        """Returns a reason. For `true`, the reason is empty. For `false`, or if the key is missing, returns None."""
         found = self.table.get(key, False)
         if type(found) is bool:
             return "" if found else None
@@ -196,7 +198,7 @@ class Section:
         return found
 
     def words(self, key: str, what: str, is_needed: bool = True) -> tuple[str, ...]:
-        """Returns the words of a command. The list is empty if they are invalid, or if the key is missing and not needed."""
+        """Returns the words of a command. If the words are invalid, or if the key is missing and not needed, the list is empty."""
         if key not in self.table and not is_needed:
             return ()
         words = tuple(word.text for word in self.texts(key))
@@ -209,7 +211,7 @@ class Section:
         return self.text(key, None, f"HOST:PORT, with a port from 1 to {MOST_PORT:,}", is_address)
 
     def memory(self, key: str) -> int:
-        """Returns the bytes of memory that a player may use; 0 if there is no limit."""
+        """Returns the number of bytes of memory that a player may use, or 0 if there is no limit."""
         text = self.text(key, "", 'a number with K, M, G or T, such as "512M"', lambda text: not text or MEMORY.fullmatch(text))
         return int(text[:-1]) << (10 * (1 + "KMGT".index(text[-1]))) if text else 0
 
@@ -336,15 +338,16 @@ class Launcher:
 
 @dataclass(frozen=True)
 class Faults:
-    """A player loses a match if `replaced` of its moves were replaced in turns in which it had a choice. 0 means that there is no limit."""
+    """A player loses a match if `replaced` of its moves were replaced in turns in which it had a choice. If `replaced` is 0, there is no
+    limit."""
 
     replaced: int = read_by(Section.number, 1, MOST_TURNS)
 
 
 @dataclass(frozen=True)
 class Form:
-    """The pairing: a round robin, a gauntlet of one player against all others, a schedule whose lines have a game and its players, a Swiss
-    competition, or a knockout. After the rounds of a Swiss competition, the `final` best players may play a knockout."""
+    """The pairing: a round robin, a gauntlet of one player against all others, a schedule in which each line has a game and its players, a
+    Swiss competition, or a knockout. After the rounds of a Swiss competition, the `final` best players may play a knockout."""
 
     kind: str
     rounds: int
@@ -382,7 +385,7 @@ class Competition:
     lines: Mapping[Path, int] = field(default_factory=dict, compare=False, repr=False, metadata={"is_line": True})
 
     def line_of(self, *key: str) -> int:
-        """Returns the line of a key, or of the table that lacks it; 0 if there is none."""
+        """Returns the line of a key, or of the table that lacks the key. If there is neither, returns 0."""
         return next((self.lines[key[:end]] for end in range(len(key), 0, -1) if key[:end] in self.lines), 0)
 
     def player(self, name: str) -> Player:

@@ -16,7 +16,7 @@ from ggp_tools.referee import Unchecked
 # The time limit for each match.
 SECONDS = 60
 SAME, DIFFERENT, NOT_FOLLOWED = 0, 1, 3
-# The beginnings of the line about a record.
+# How the line about a record begins, for each result.
 IS_SAME, DIFFERS, IS_NOT_FOLLOWED = "the same: ", "differs: ", "not followed: "
 REPORT = "report-{}.tar.gz"
 

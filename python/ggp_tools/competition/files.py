@@ -1,4 +1,4 @@
-"""The files of a competition: their paths, and how they are read and written."""
+"""Defines the paths of a competition's files, and how they are read and written."""
 
 import contextlib
 import errno
@@ -66,8 +66,8 @@ def held(path: pathlib.Path) -> Iterator[None]:
 
 
 def lock_place(folder: str | pathlib.Path) -> str:
-    """Returns how /proc/locks names a directory: by its device and its inode number. The device is that of the mount, because some file systems
-    report a different one for their files."""
+    """Returns how /proc/locks names a directory: by its device and its inode number. The device is that of the mount, because some file
+    systems report a different device for their files."""
     descriptor = os.open(folder, os.O_PATH | os.O_CLOEXEC)
     try:
         mount = pathlib.Path(f"/proc/self/fdinfo/{descriptor}").read_text("ascii").partition("mnt_id:")[2].split()[0]
@@ -96,8 +96,9 @@ def private(name: str, flags: int) -> int:
 
 @contextlib.contextmanager
 def written_whole(path: pathlib.Path, is_lasting: bool = True, is_private: bool = False) -> Iterator[BinaryIO]:
-    """Yields a file to write to. The file has a temporary name until it is complete, so a partly written file never has the final name. With
-    `is_lasting`, the file is on the disk at the end; otherwise it may be lost if the computer crashes. After an error, no file is left."""
+    """Yields a file to write to. The file has a temporary name until it is complete, so a partly written file never has the final name.
+    With `is_lasting`, the file is on the disk at the end. Otherwise, it may be lost if the computer crashes. If there is an error, no file
+    is left."""
     path = pathlib.Path(path)
     # Two runs may write the same file, so each uses a different temporary name.
     other = path.with_name(f"{UNFINISHED}{os.getpid()}-{path.name}")
@@ -123,13 +124,13 @@ def written_whole(path: pathlib.Path, is_lasting: bool = True, is_private: bool 
 
 
 def write_whole(path: pathlib.Path, data: bytes, is_lasting: bool = True, is_private: bool = False) -> None:
-    """Writes a file completely or not at all."""
+    """Writes a file, completely or not at all."""
     with written_whole(path, is_lasting, is_private) as file:
         file.write(data)
 
 
 def drop_unfinished(folder: pathlib.Path) -> None:
-    """Deletes unfinished files of ended processes in a directory. This process must not be writing files in it."""
+    """Deletes unfinished files of processes that have ended from a directory. This process must not be writing files in the directory."""
     for file in folder.glob(f"{UNFINISHED}*"):
         # The name contains the id of the process that writes the file.
         number = file.name.removeprefix(UNFINISHED).partition("-")[0]
@@ -235,7 +236,7 @@ class Folder:
             return file.read(most), is_cut
 
     def refuse_old_logs(self) -> None:
-        """Refuses a competition that was played with a version that did not write its logs as JSON."""
+        """Refuses a competition that was played with a version whose logs are not JSON."""
         if old := next(self.logs.glob("*.txt"), None):
             raise Refused(f"{old} is a log of ggp_manager 0.2.0", "use that version for this competition")
 

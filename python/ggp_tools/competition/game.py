@@ -25,7 +25,7 @@ ends in time, or a record differs from the expected one. 2: the command is wrong
 example because the referee or the grounder was killed or is out of memory, or no temporary file can be written.
 """
 MOST_MATCHES, MOST_SEED = 10_000, 10**18
-# The maximum number of listed seeds, and of bytes of a state.
+# The maximum number of seeds that are listed, and the maximum number of bytes of a state.
 LISTED, MOST_STATE = 10, 500
 # `plan` plays random matches until one of them ends, but at most this many, and begins no turn after this many seconds.
 TRIAL_MATCHES, TRIAL_SECONDS = 5, 10
@@ -98,7 +98,7 @@ def load(path: pathlib.Path, text: bytes, referee: Referee, limit: int) -> Rules
 
 
 def report_game(reporter: Reporter, asked: argparse.Namespace, referee: Referee, path: pathlib.Path, text: bytes) -> bool:
-    """Reports on a description, and returns whether it is refused or its matches show an error."""
+    """Reports on a description. Returns whether the description is refused, or whether its matches show an error."""
     from ggp_tools.descriptions.refused import why_refused
 
     reporter.draw("the description")
@@ -142,7 +142,7 @@ def report_suspicions(reporter: Reporter, asked: argparse.Namespace, text: bytes
 
 
 def report_matches(reporter: Reporter, asked: argparse.Namespace, referee: Referee, text: bytes, rules: Rules) -> bool:
-    """Plays random matches, and reports how they ended. Returns whether one of them showed an error, or none ended."""
+    """Plays random matches, and reports how they ended. Returns whether one of them showed an error, or whether none ended."""
     from ggp_tools.descriptions.goals import goals_said
     from ggp_tools.descriptions.random_matches import RandomMatches
 
@@ -197,8 +197,8 @@ def report_figures(reporter: Reporter, roles: Sequence[str], ended: list) -> Non
 
 
 def trial(rules: bytes, referee: Referee, name: str) -> tuple[str | None, str | None]:
-    """Plays random matches of a game before it is planned: if none of them ends, the description is most likely wrong. Returns the error, and a note
-    if there is no verdict. Both are None if a match ends."""
+    """Plays random matches of a game before it is planned. If none of them ends, the description is most likely wrong. Returns the error,
+    and a note if there is no verdict. Both are None if a match ends."""
     from ggp_tools.descriptions.random_matches import RandomMatches, TimeIsOver
 
     reporter = Reporter()

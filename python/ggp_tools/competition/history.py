@@ -1,5 +1,5 @@
-"""The history of a competition, in its directory. `earlier` has the earlier versions of competition.toml, each named by the number of matches that
-were planned when the next version replaced it. `again.tsv` has the rematches, with the reasons."""
+"""Reads the history of a competition in its directory. `earlier` has the earlier versions of competition.toml. The name of each is the
+number of matches that were planned when the next version replaced it. `again.tsv` has the rematches, with the reasons."""
 
 import csv
 import io
@@ -61,8 +61,8 @@ def seeded(competition: Competition, path: Path) -> Competition:
 
 
 def earlier_files(folder: Folder, *new: int) -> list[Path]:
-    """Returns the earlier versions of competition.toml, the oldest first. Refuses too many files, or too many bytes in total. `new` has the sizes of
-    the versions to be added."""
+    """Returns the earlier versions of competition.toml, the oldest first. Refuses too many files, or too many bytes in total. `new` has the
+    sizes of the versions that will be added."""
     found = [file for file in folder.earlier.iterdir() if not file.name.startswith(UNFINISHED)] if folder.earlier.is_dir() else []
     for file in found:
         if not EARLIER.fullmatch(file.name):

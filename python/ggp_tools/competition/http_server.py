@@ -26,8 +26,9 @@ Value = TypeVar("Value")
 # The directory is read every INTERVAL seconds. If a page does not change, its visitor is sent a row every ALIVE seconds, which shows
 # whether the visitor has left.
 INTERVAL, ALIVE = 1.0, 10.0
-# The head of a request must arrive within HEAD seconds and have at most LONGEST_HEAD bytes. The visitor must accept each piece of data within PATIENCE
-# seconds, and the piece at byte N of an answer within PATIENCE + N / SLOWEST seconds after the beginning of the answer.
+# The head of a request must arrive within HEAD seconds, and have at most LONGEST_HEAD bytes. The visitor must accept each piece of data
+# within PATIENCE seconds. It must accept the piece at byte N of an answer within PATIENCE + N / SLOWEST seconds after the beginning of the
+# answer.
 HEAD, LONGEST_HEAD, PATIENCE, SLOWEST = 5, 16_384, 20, 1 << 15
 # The number of connections that may wait to be accepted, and the number that are accepted at a time. The second one is small, so that the
 # server reads the heads of accepted connections before it accepts more: only the head of a request from a proxy shows the client, and
@@ -47,7 +48,7 @@ PIECE, MOST_SENT = 1 << 16, 256 << 20
 PAGE, JSON, NUMBERS = "text/html", "application/json", "text/plain; version=0.0.4"
 NOBODY = ("'none'",)
 VERSION, METHODS = re.compile("[0-9]{1,20}"), ("GET", "HEAD")
-# If a request cannot be read, only its sender needs to know, so the error is not logged.
+# If a request cannot be read, only its sender needs to know this, so the error is not logged.
 SILENT = logging.Logger("requests")
 SILENT.addHandler(logging.NullHandler())
 
@@ -145,8 +146,8 @@ class Server:
         self.headers = {**HEADERS, "Content-Security-Policy": f"frame-ancestors {' '.join(origins or NOBODY)}"}
         self.thread, self.other_thread = concurrent.futures.ThreadPoolExecutor(1), concurrent.futures.ThreadPoolExecutor(1)
         sys.setrecursionlimit(MOST_CALLS)
-        # One lock for each client that is waiting for a thread, and one lock for the pages that are computed from results. These pages take longer than
-        # the others.
+        # There is one lock for each client that is waiting for a thread, and one lock for the pages that are computed from results, which
+        # take longer than the others.
         self.turns: weakref.WeakValueDictionary[str, asyncio.Lock] = weakref.WeakValueDictionary()
         self.long_turn = asyncio.Lock()
         self.updated = asyncio.Event()
@@ -207,7 +208,7 @@ class Server:
         return not host or client_of(self.address) != THIS_COMPUTER or any(is_own_name(host, name) for name in self.names)
 
     async def answer(self, request: web.BaseRequest) -> web.StreamResponse:
-        """Answers a request, and ends the connection if the visitor does not take the answer in time."""
+        """Answers a request. If the visitor does not accept the answer in time, ends the connection."""
         request.protocol.has_asked()
         whole, _, query = request.raw_path.partition("?")
         asked = whole.removeprefix(self.base) if whole.startswith(f"{self.base}/") else ""

@@ -11,7 +11,7 @@ from ggp_tools.competition.files import Folder, Refused, write_whole
 # This directory exists in the repository and in an archive of the program.
 PARENTS = pathlib.Path(__file__).resolve().parents
 EXAMPLES = next((place for parent in PARENTS if (place := parent / "examples/games").is_dir()), pathlib.Path("examples/games"))
-# The options for the forms: the argument, and the help.
+# The options for the forms. Each has the name of its argument, and its help.
 FORMS = {
     "round-robin": ("ROUNDS", "each pair of players meets ROUNDS times, each time in both orders of the roles"),
     "swiss": ("ROUNDS", "a Swiss competition of this many rounds"),

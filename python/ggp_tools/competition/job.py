@@ -73,7 +73,7 @@ def children() -> list[int]:
 
 
 class Job:
-    """A referee or a player and its output. The job writes its own lines only between lines of the referee."""
+    """A referee or a player, and its output. The job writes its own lines only between lines of the referee."""
 
     def __init__(self, silence: float) -> None:
         self.silence, self.given = silence, b""

@@ -22,7 +22,7 @@ END_SECONDS, LOST_SECONDS = 3, 10
 # If this program sends nothing for this many seconds, a job ends its processes, so that the match can be started elsewhere. A job on this
 # computer notices at once when this program ends, so this program may be silent, for example while it is stopped by Ctrl-Z.
 SILENCE, HERE_SILENCE = 20, 10**9
-# The maximum length of the name of a node, and of a process with its address.
+# The maximum length of the name of a node, and that of a process with its address.
 MOST_OF_NAME = 300
 PROCESS = re.compile("[0-9]{1,10}")
 JOB = pathlib.Path(__file__).with_name("job.py").absolute()
@@ -82,7 +82,7 @@ class Job:
                 await asyncio.wait([ending, reading], return_when=asyncio.FIRST_COMPLETED)
             finally:
                 beating.cancel()
-                # The job gets time to end the processes on the node, which may continue if the job is killed.
+                # The job gets time to end its processes on the node. If the job were killed, they might continue.
                 self.process.stdin.close()
                 await asyncio.wait([ending], timeout=self.end_seconds)
                 self.goes_on = self.has_begun and not has_ended.is_set()
@@ -106,7 +106,7 @@ class Job:
             await self.take_output(data)
 
     async def read_lines(self) -> None:
-        """Reads standard error. A job may be silent while it waits in a queue, but not once it runs."""
+        """Reads standard error. While a job waits in a queue, it may be silent, but not when it runs."""
         rest = b""
         try:
             async with asyncio.timeout(None) as silence:
@@ -123,7 +123,7 @@ class Job:
             await self.take([rest])
 
     async def take(self, lines: list[bytes]) -> None:
-        """Handles lines of standard error: first those of the job itself, then all others together, because there may be very many."""
+        """Handles lines of standard error: first the job's own lines, and then all others together, because there may be very many."""
         for line in lines:
             if line.startswith(OURS):
                 self.take_own(line)
@@ -143,7 +143,7 @@ class Job:
             self.is_up.set()
 
     async def beat(self) -> None:
-        """Sends the job a byte every few seconds, once it runs."""
+        """When the job runs, sends it a byte every few seconds."""
         await self.is_up.wait()
         while not self.process.stdin.is_closing():
             self.process.stdin.write(b"\n")

@@ -61,7 +61,7 @@ class Facts(pickle.Unpickler):
 
 
 def facts_in(data: bytes | None) -> dict[str, typing.Any]:
-    """Returns stored facts, or none if these bytes are anything else."""
+    """Parses stored facts. If the bytes are not facts, returns an empty table."""
     try:
         facts = Facts(io.BytesIO(data)).load() if data else {}
     except (RuntimeError, pickle.UnpicklingError):
@@ -99,8 +99,8 @@ class Known:
         self.used.setdefault(kind, {})[key] = value
 
     def write(self) -> None:
-        """Stores the facts. If facts of a kind were used, the other facts of this kind are dropped. Facts that cannot be stored are computed again
-        the next time."""
+        """Stores the facts. If some facts of a kind were used, all others of this kind are dropped. If the facts cannot be stored, they are
+        computed again the next time."""
         new = {kind: pickle.dumps(values) for kind, values in self.used.items() if values != self.facts(kind)}
         if new and len(data := pickle.dumps(self.before | new)) <= MOST_BYTES:
             store(KIND, self.name, data, MOST_KEPT)

@@ -120,7 +120,7 @@ class OpenMatch:
         self.places = list(map(self.players.place, players))
         async with asyncio.TaskGroup() as group:
             asked = [group.create_task(self.info(player, place)) for player, place in zip(players, self.places)]
-        # Errors of this computer do not count against a player.
+        # An error of this computer does not count against a player.
         return not self.why and self.can_begin({player: task.result() for player, task in zip(players, asked)})
 
     async def info(self, player: str, place: str) -> str:
@@ -131,7 +131,7 @@ class OpenMatch:
         answer, is_unknown = verdict.get("verdict", ""), verdict.get("lacks") == "resolver"
         is_silent = done.status is None or answer == "no_answer" or is_unknown
         if is_silent:
-            # Only the elapsed time distinguishes a refused or lost connection from a player that did not answer in time.
+            # A refused or lost connection, and a player that did not answer in time, can be distinguished only by the elapsed time.
             is_refused = done.status is not None and done.seconds < WHOLE
             answer = "its host name is unknown" if is_unknown else f"refused{reason_of(done, player)}" if is_refused else "silent"
         elif done.status or not answer:

@@ -34,7 +34,7 @@ MOST_OF_FILES = {
 FIRST = "competition.toml", "schedule.tsv"
 # The number of files of a match, and the maximum number of other files, including those of games and players.
 OF_MATCH, OTHER_FILES = re.compile(r"[^/]*/(?:records/(.+)\.json|accounts/(.+)\.txt|logs/(.+)\.jsonl|pages/matches/(.+)\.html)"), 10_000
-# Higher levels take much longer, and save little.
+# Higher levels of compression take much longer, and save little.
 LEVEL = 6
 OTHERWISE = "its bytes are not those that `publish` would write: the difference is"
 
@@ -78,7 +78,8 @@ def read_all(stream: BinaryIO, size: int) -> bytes:
 
 
 def members(stream: BinaryIO) -> Iterator[tuple[str, int]]:
-    """Yields the name and the size of each file in a tar file. Before the next file, the caller must read the bytes of this one with `copy`."""
+    """Yields the name and the size of each file in a tar file. Before the caller asks for the next file, it must read the bytes of this one
+    with `copy`."""
     while any(head := read_all(stream, tarfile.BLOCKSIZE)):
         if head[156:157] == tarfile.XHDTYPE:
             head += read_all(stream, 2 * tarfile.BLOCKSIZE)
@@ -119,7 +120,8 @@ def planned_ids(schedule: pathlib.Path) -> set[str | None]:
 
 
 def is_of_match(name: str, size: int, ids: set[str | None], folder: pathlib.Path) -> bool:
-    """Returns whether a file belongs to a match of the schedule. Refuses an empty file, except for the log of a match that has a record."""
+    """Returns whether a file belongs to a match of the schedule. Refuses an empty file, unless it is the log of a match that has a
+    record."""
     found = OF_MATCH.fullmatch(name)
     match = found and found[found.lastindex]
     if not match or match not in ids:

@@ -76,8 +76,8 @@ def frame(parts: PageParts) -> list[tuple]:
 
 
 def item_changes(old: Items, new: Items) -> dict[str, list]:
-    """Returns the names of dropped items, the replaced items with their HTML, and the added ones, the last one first. An added item has its part, the
-    item before which it is inserted, and its HTML. An item that moves is dropped and added."""
+    """Returns the names of dropped items, the replaced items with their HTML, and the added items, the last one first. An added item comes
+    with its part, the item before which it is inserted, and its HTML. An item that moves is dropped and added again."""
     before, after = dict(old.items), dict(new.items)
     kept = [name for name, _ in old.items if name in after]
     if kept != [name for name, _ in new.items if name in before]:

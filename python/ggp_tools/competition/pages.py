@@ -112,14 +112,14 @@ def pages_of_all(results: list[Result]) -> dict[str, list[Result]]:
 
 @functools.lru_cache(16)
 def rules_part(rules: Rules) -> Part:
-    """Returns the rules of a game, preceded by the rules that its players get, if these differ."""
+    """Returns the rules of a game. If players get other rules, these come first."""
     player_text = rules.player_rules
     player_sum = sum_of(player_text) if player_text is not None else ""
     return part("rules", text=rules.text, sum=sum_of(rules.text), player_text=player_text, player_sum=player_sum)
 
 
 def match_page(data: bytes, game: Callable[[], Game] | None, answers: dict[tuple[int, int], str], frame: Frame) -> bytes:
-    """Returns the page of a match: that of `ggp-show-record` for its record, with a head."""
+    """Returns the page of a match. It is the page of `ggp-show-record` for the match's record, with a head."""
     return page_of(read_record(data), game, answers, frame)
 
 
@@ -291,7 +291,7 @@ def pages_of(site: Site, tables: list[Table], results: list[Result]) -> dict[str
 
 
 class Pages:
-    """The pages as files of a directory. A page is made again only if its contents have changed."""
+    """Writes the pages as files of a directory. A page is made again only if its contents have changed."""
 
     def __init__(self, plan: Plan, shows_gaps: bool = False, known: Known | None = None) -> None:
         if not known:

@@ -1,4 +1,4 @@
-"""Plans a competition: writes its rules and its schedule, lets them grow later, and reads them again."""
+"""Plans a competition: writes its rules and its schedule, extends them later, and reads them again."""
 
 import functools
 import os
@@ -116,8 +116,8 @@ def is_played(folder: Folder) -> bool:
 
 
 def is_begun(folder: Folder) -> bool:
-    """Returns whether matches have been played. A plan has a history only once matches have been played, so the history shows this even if the
-    records are gone."""
+    """Returns whether matches have been played. A plan has a history only after matches have been played. So even if the records are gone,
+    the history shows this."""
     return is_played(folder) or bool(history_files(folder))
 
 
@@ -186,8 +186,8 @@ def loaded_games(folder: Folder, competition: Competition, referee: Referee) -> 
 
 
 def refuse_addresses(folder: Folder, competition: Competition) -> dict[str, str]:
-    """Refuses players that no match can reach or start, and two players at one address. Returns the current address of each player that has one,
-    because a host name may lead to another player later."""
+    """Refuses players that no match can reach or start, and several players at one address. Returns the current address of each player that
+    has one, because a host name may lead to another player later."""
     from ggp_tools.competition.started_players import mistakes_of_programs
 
     places = places_now(competition)
@@ -235,7 +235,7 @@ def make_plan(path: str, referee: Referee, is_preview: bool = False) -> Plan:
                 **({folder.seeds: read_file(seeds)} if seeds else {}),
                 **files,
                 folder.description_sums: sums_text({f"{name}.kif": ground.description_sum for name, ground in rules.items()}),
-                # The other files do not count without these checksums, so an interrupted `plan` must run again.
+                # Without these checksums, the other files do not count. So an interrupted `plan` must run again.
                 folder.rule_sums: sums_text({file.name: sum_of(data) for file, data in files.items()}),
                 folder.planned: text,
                 folder.schedule: schedule_text(schedule.matches),
@@ -258,7 +258,8 @@ def history_of(folder: Folder, competition: Competition, rules: Mapping[str, Rul
 
 
 def planned_before(folder: Folder, competition: Competition) -> Competition | None:
-    """Returns the competition that `plan` read last, or None. Because matches have been played, refuses changes to values that must stay the same."""
+    """Returns the competition that `plan` read last, or None. Refuses changes to values that must stay the same, because matches have been
+    played."""
     if not folder.planned.exists():
         return None
     before = competition_of_file(folder.planned, read_toml_file(folder.planned), folder.seeds)
@@ -281,7 +282,7 @@ def grows(folder: Folder, file: Path, old: bytes, new: bytes) -> bool:
 
 
 def write_plan(folder: Folder, is_begun: bool, files: dict[Path, bytes]) -> None:
-    """Writes the files of a plan. Once matches have been played, they may only grow; missing ones are written again."""
+    """Writes the files of a plan. After matches have been played, the files may only grow. Missing files are written again."""
     for file, data in files.items():
         if is_begun and file.exists() and not grows(folder, file, read_file(file), data):
             raise Refused(f"{file} would change, but matches have already been played", "undo the change, or use another directory")
@@ -390,7 +391,8 @@ def rounds_left(plan: Plan) -> int:
 
 
 def next_plan(plan: Plan, results: Mapping[str, Result]) -> Plan | None:
-    """Returns the plan with the next round, which is not written yet, or None if the last round is not over or there are no more rounds."""
+    """Returns the plan with the next round, which is not written yet. If the last round is not over, or there are no more rounds, returns
+    None."""
     if not rounds_left(plan) or any(match.id not in results and match.counts() for match in plan.matches):
         return None
     roles = {name: len(ground.roles) for name, ground in plan.rules.items()}
@@ -400,7 +402,7 @@ def next_plan(plan: Plan, results: Mapping[str, Result]) -> Plan | None:
 
 
 def plan_next_round(plan: Plan, results: Mapping[str, Result]) -> list[Match]:
-    """Plans the next round if there is one and the last one is over, writes the schedule, and returns the new matches."""
+    """If there is a next round and the last one is over, plans it, writes the schedule, and returns the new matches."""
     if not (following := next_plan(plan, results)):
         return []
     write_whole(plan.folder.schedule, schedule_text(following.matches))
@@ -436,7 +438,7 @@ def replaceable_match(plan: Plan, referee: Referee, match_id: str) -> Match:
 
 
 def order_again(path: str, referee: Referee, match_id: str, reason: str) -> Match:
-    """Plans another match in place of this one, with the reason, and returns it."""
+    """Plans another match that replaces this one, with the reason, and returns it."""
     if not REASON.fullmatch(reason):
         raise Refused("--reason: expected 1 to 200 printable ASCII characters, without a space at either end")
     with held(path):

@@ -22,7 +22,8 @@ LAST_ERRORS = f"The last {MOST_ERRORS}, at most {MOST_OF_MATCH} of each match."
 
 @dataclass(frozen=True)
 class MoveError:
-    """A replaced move: its turn, counted from 1, the error, the move that was played, and, if the log has them, the message and the answer."""
+    """A replaced move: its turn, counted from 1; the error; the move that was played; and, if the log has them, the message and the
+    answer."""
 
     turn: int
     error: str
@@ -51,7 +52,7 @@ class Appearance:
 
 
 def times_of_role(asked: list[Message]) -> tuple[tuple[int, ...], int | None, int | None]:
-    """Returns how many response times of a role fall into each bar, how long its START took, and its longest PLAY."""
+    """Returns how many response times of a role fall into each bar, how long its START took, and how long its longest PLAY took."""
     starts, plays = ([message.ms for message in asked if message.kind == kind] for kind in (START, PLAY))
     counts = Counter(map(bar_of, plays))
     return tuple(counts[bar] for bar in range(BARS)), starts[-1] if starts else None, max(plays, default=None)
@@ -130,7 +131,8 @@ def errors_part(appearances: list[Appearance]) -> Part:
 
 
 def player_parts(competition: str, player: str, standing: str, appearances: list[Appearance]) -> PageParts:
-    """Returns the parts of a player's page before the list of its matches; `standing` is a sentence. Matches that others replace do not count."""
+    """Returns the parts of a player's page before the list of its matches; `standing` is a sentence. Matches that were replaced by others
+    do not count."""
     ordered = sorted((appearance for appearance in appearances if appearance.result.match.counts()), key=lambda appearance: appearance.ended)
     left_out = [again_words(appearance.result.match) for appearance in appearances if not appearance.result.match.counts()]
     goals = goals_plot([goal for appearance in ordered if (goal := appearance.goal()) is not None])

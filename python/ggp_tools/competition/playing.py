@@ -46,7 +46,8 @@ class Playing:
         self.plan, self.referee, self.reporter = plan, referee, reporter
         self.slots, self.launcher = Slots(plan.competition), plan.competition.launcher
         self.at_once = self.launcher.slots if self.launcher else at_once
-        # `news` is set after an interrupt, and when further matches may be able to begin. `ends` is set when there is another result.
+        # `news` is set after an interrupt, and when it is possible that further matches can begin. `ends` is set when there is another
+        # result.
         self.news, self.ends = asyncio.Event(), asyncio.Event()
         self.players = StartedPlayers(plan.folder, plan.competition, referee, reporter)
         # By match id: the results, and the reasons why matches have none. By game: the reason why no more matches of the game begin.
@@ -65,7 +66,7 @@ class Playing:
         return not self.interrupts and not self.is_full and not (match and match.game in self.stopped)
 
     def begin(self) -> None:
-        """Opens matches until as many as allowed have slots, or no further match can begin."""
+        """Opens matches until the maximum number is open, or until no further match can begin."""
         self.searched_at, playing = time.monotonic(), sum(open_match.has_slots for open_match in self.open)
         while self.may_begin() and playing < self.at_once and (match := self.slots.next_match(self.waiting, self.searched_at)):
             open_match = OpenMatch(self, match)
@@ -108,7 +109,7 @@ class Playing:
             self.waiting.append(match)
 
     def stop_game(self, match: Match) -> None:
-        """Begins no more matches of a game, because its rules are wrong. Open matches are played to their ends."""
+        """Because the rules of a game are wrong, begins no more of its matches. Open matches are played to their ends."""
         self.stopped[match.game] = f"{match.game} is not played any more, because {match.id} does not follow its description"
         others = [waiting for waiting in self.waiting if waiting.game == match.game]
         self.left.update((other.id, self.stopped[match.game]) for other in others)
@@ -156,7 +157,7 @@ class Playing:
             await asyncio.sleep(REDRAWN)
 
     async def show_results(self) -> None:
-        """Calls `watch` in a thread when there are new results, so that matches can continue meanwhile."""
+        """When there are new results, calls `watch` in a thread, so that matches can continue in the meantime."""
         while self.watch:
             await self.ends.wait()
             self.ends.clear()

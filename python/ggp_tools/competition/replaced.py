@@ -1,4 +1,4 @@
-"""The replaced moves of open and finished matches."""
+"""Finds the replaced moves of open and finished matches."""
 
 from collections.abc import Iterable, Mapping, Sequence
 from dataclasses import dataclass
@@ -7,7 +7,7 @@ from ggp_tools.competition.schedule import Match
 from ggp_tools.match_log import SHORTAGE
 
 Texts = Sequence[str]
-# The maximum numbers of listed replaced moves, in total and of one match.
+# The maximum number of replaced moves that are listed, in total and for one match.
 MOST_REPLACED, MOST_OF_MATCH = 20, 3
 
 

@@ -1,4 +1,4 @@
-"""The result of a match, from its record and the forfeit rules of the competition, and its row in matches.jsonl."""
+"""Computes the result of a match from its record and the forfeit rules of the competition, and its row in matches.jsonl."""
 
 import json
 import threading
@@ -27,8 +27,8 @@ GAMES = threading.Lock()
 
 @dataclass(frozen=True)
 class Retirement:
-    """Why a role was retired or has forfeited its match: the kinds of its errors, the last turn with an error, and the first such turn if these turns
-    are not consecutive."""
+    """The reason why a role was retired or has forfeited its match: the kinds of its errors, the last turn with an error, and, if the turns
+    with errors are not consecutive, the first such turn."""
 
     errors: tuple[str, ...]
     turn: int
@@ -200,7 +200,7 @@ def counted_result(record: dict, data: bytes, match: Match, competition: Competi
 
 
 def read_record(data: bytes) -> dict:
-    """Parses a lawful record without its states."""
+    """Parses a lawful record, but not its states."""
     return json.loads(without_states(data))
 
 
@@ -217,8 +217,8 @@ def result_keys(result: Result) -> dict[str, object]:
 
 
 def match_line(result: Result, sums: Mapping[str, str | None], logged: Beginning, broken: list[dict[str, object]]) -> bytes:
-    """Returns a match as one line of JSON. `sums` has the checksums of the record, of the rules, and of the description from which these were made, and
-    `broken` the broken answers with their reasons."""
+    """Returns a match as one line of JSON. `sums` has the checksums of the record, of the rules, and of the description from which these
+    were made, and `broken` has the broken answers with their reasons."""
     match = result.match
     values = {
         "id": match.id,

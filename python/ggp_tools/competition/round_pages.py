@@ -16,7 +16,7 @@ from ggp_tools.competition.table_text import count_of_planned, points_text
 Row = tuple[int, tuple[str, str], list[str]]
 # A place in a bracket: the player, its points, and whether it advances. As long as the player is not known, its name is empty.
 Place = tuple[str, str, bool]
-# A bracket shows only rounds with at most this many pairs. BYE is shown instead of a missing opponent.
+# A bracket shows only rounds with at most this many pairs. If a player has no opponent, BYE is shown instead.
 MOST_PAIRS, BYE = 32, "(bye)"
 
 

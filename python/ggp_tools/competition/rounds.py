@@ -1,5 +1,6 @@
-"""The rounds of a Swiss competition and of a knockout: pairs the players of a round by the results of the earlier rounds, as "Swiss and knockout" in
-docs/COMPETITION.md describes it. A pairing of two players has a match in each game for each order of the roles."""
+"""Plans the rounds of a Swiss competition and of a knockout. The results of the earlier rounds determine the pairs of the next one, as
+"Swiss and knockout" in docs/COMPETITION.md describes it. When two players are paired, they play a match in each game for each order of the
+roles."""
 
 import itertools
 from collections import Counter, defaultdict
@@ -10,14 +11,14 @@ from ggp_tools.competition.competition_file import KNOCKOUT, ROUND_KINDS, SWISS,
 from ggp_tools.competition.results import DRAWN, WON, Result
 from ggp_tools.printable import counted
 
-# The round and the two players of a pairing.
+# A pairing: its round and its two players.
 Meeting = tuple[int, frozenset[str]]
 
 
 @dataclass(frozen=True)
 class Round:
-    """A round: its number, counted from 1, its pairs, its byes, and the players that were withdrawn before it because they were absent, with the
-    reason."""
+    """A round: its number, counted from 1; its pairs; its byes; and the players that were withdrawn before it because they were absent,
+    with the reason."""
 
     number: int
     pairs: tuple[tuple[str, str], ...]
@@ -149,7 +150,7 @@ def swiss_round(competition: Competition, number: int, scores: Scores, withdrawn
 
 
 def bracket(count: int) -> list[int]:
-    """Returns the seeds, counted from 0, in the order of the bracket, filled up to a power of two."""
+    """Returns the seeds, counted from 0, in the order of the bracket, extended to a power of two."""
     seeds = [0]
     while len(seeds) < count:
         seeds = [place for seed in seeds for place in (seed, 2 * len(seeds) - 1 - seed)]
@@ -157,7 +158,8 @@ def bracket(count: int) -> list[int]:
 
 
 def winner(pair: tuple[str, str], results: Collection[Result], scores: Scores, withdrawn: Mapping[str, str], seeds: Sequence[str]) -> str | None:
-    """Returns the winner of a pairing that is over, or None if both players withdrew before all its matches were played. `scores` must be empty."""
+    """Returns the winner of a pairing that is over. If both players withdrew before all its matches were played, returns None. `scores`
+    must be empty."""
     left = [name for name in pair if name not in withdrawn]
     for result in results:
         scores.count_result(result)

@@ -1,4 +1,5 @@
-"""The matches of a competition: who plays whom in which game, and schedule.tsv. The same competition gives the same matches."""
+"""Computes the matches of a competition: the game and the players of each, and schedule.tsv. The same competition always gives the same
+matches."""
 
 import base64
 import hmac
@@ -14,7 +15,7 @@ HEAD = "id\tgame\tstart\tplay\tplayers\n"
 MOST_MATCHES = 100_000
 # The number of letters and digits of a random id that are computed from the key: 60 bits.
 SECRET_LETTERS = 12
-# The match, its game, its clocks, and the players.
+# A row of schedule.tsv: the match, its game, its clocks, and the players.
 ROW = re.compile(rb"([A-Za-z0-9_.-]{1,60})\t([A-Za-z0-9_.-]{1,40})\t([0-9]{1,5})\t([0-9]{1,5})\t([A-Za-z0-9_. -]+)\n?")
 
 
@@ -69,14 +70,14 @@ def circle_steps(count: int, roles: int, rounds: int) -> Iterator[tuple[int, ...
 
 
 def round_robin(players: Sequence[str], roles: int, rounds: int) -> Iterator[tuple[str, ...]]:
-    """Yields the players of each match: with two roles each pair in both orders, with one role each player."""
+    """Yields the players of each match. With two roles, each pair plays in both orders. With one role, each player plays alone."""
     for steps in circle_steps(len(players), roles, rounds):
         for first in range(len(players)):
             yield tuple(players[(first + step) % len(players)] for step in steps)
 
 
 def gauntlet(players: Sequence[str], one: str, roles: int, rounds: int) -> Iterator[tuple[str, ...]]:
-    """Yields the players of each match of one player against all others. It plays each role in turn."""
+    """Yields the players of each match between one player and all others. That player plays each role in turn."""
     if roles == 1:
         yield from round_robin(players, 1, rounds)
         return
@@ -106,7 +107,7 @@ def asked(competition: Competition, roles: Mapping[str, int]) -> list[tuple[str,
 
 
 def refuse_numbers(competition: Competition, roles: Mapping[str, int]) -> None:
-    """Refuses games and lines whose number of players does not fit the roles."""
+    """Refuses games, and lines of the schedule, whose number of players does not fit the roles."""
     form, count, mistakes = competition.form, len(competition.players), []
     for line in form.lines:
         name, *players = line.text.split()
@@ -147,7 +148,7 @@ def matches_in(schedule: bytes, competition: Competition) -> list[Match]:
 
 
 def id_in(line: bytes) -> str | None:
-    """Returns the id of the match in a line of schedule.tsv, or None if it has none."""
+    """Returns the id of the match in a line of schedule.tsv, or None if the line has no id."""
     row = ROW.fullmatch(line)
     return row[1].decode("ascii") if row else None
 

@@ -12,12 +12,12 @@ from ggp_tools.referee import Unchecked
 PROCESSORS = min(8, len(os.sched_getaffinity(0)))
 # With at least this many calls, several worker processes share them. Each process takes this many calls at a time.
 MANY, CHUNK = 100, 16
-# In a worker process: the function and the arguments of each call, which it inherits.
+# A worker process inherits these: the function, and the arguments of each call.
 WORK: list[typing.Any] = []
 
 
 def begin(function: Callable[..., object], calls: Sequence[tuple]) -> None:
-    """Prepares a worker process. It ignores interrupts, because its parent handles them."""
+    """Prepares a worker process, which ignores interrupts, because its parent handles them."""
     signal.signal(signal.SIGINT, signal.SIG_IGN)
     WORK[:] = function, calls
 

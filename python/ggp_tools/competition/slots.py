@@ -1,5 +1,5 @@
-"""Keeps track of the free players. Each player has a limited number of matches at the same time, and rests for a while after it was busy or
-silent."""
+"""Keeps track of the free players. Each player plays a limited number of matches at the same time. A player that was busy or silent is not
+asked again for a while."""
 
 import math
 import time
@@ -19,7 +19,7 @@ class Slots:
         # For each player, when its last failed try ended.
         self.failed_at = dict.fromkeys(self.free, 0.0)
         self.tries, self.wait = competition.tries, competition.wait
-        # No match can begin before this time, unless a match ends.
+        # Unless a match ends, no match can begin before this time.
         self.idle_until = 0.0
 
     def has_free(self, match: Match, now: float) -> bool:
@@ -51,8 +51,8 @@ class Slots:
         return not is_last
 
     def next_match(self, waiting: MutableSequence[Match], now: float) -> Match | None:
-        """Removes the first waiting match that can begin, takes its slots, and returns it. If no match can begin, the next search waits until a slot
-        is free again or a player has rested."""
+        """Finds the first waiting match that can begin, removes it from `waiting`, takes its slots, and returns it. If no match can begin,
+        the next search waits until a slot is free again or a player has rested."""
         if now < self.idle_until:
             return None
         if any(self.free[player] > 0 and self.rests_until[player] <= now for player in self.free):

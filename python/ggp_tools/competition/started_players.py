@@ -23,7 +23,8 @@ from ggp_tools.reporting import Reporter
 HERE, NOWHERE = "127.0.0.1", "127.0.0.1:1"
 # A player must end within this many seconds.
 END_SECONDS = 15
-# The first pause between two INFO messages to a player that is starting. Each pause is twice as long as the previous one, up to a second.
+# The first pause between two INFO messages to a player that is starting. Each further pause is twice as long as the previous one, up to a
+# second.
 FIRST_PAUSE, LONGEST_PAUSE = 0.05, 1.0
 # A log that is larger than this is renamed. It replaces the log that was renamed before.
 MOST_BYTES = 1 << 20
@@ -39,7 +40,7 @@ class PlayerLog:
 
     def __init__(self, path: pathlib.Path) -> None:
         self.path, self.size = path, path.stat().st_size if path.exists() else 0
-        # Where the output since the last start begins.
+        # The position at which the output since the last start begins.
         self.begin = self.size
 
     def mark(self, text: str) -> None:
@@ -54,7 +55,7 @@ class PlayerLog:
             await asyncio.sleep(CHUNK_PAUSE)
 
     def write(self, data: bytes) -> None:
-        """Appends output. Output that cannot be written is lost, because a full disk must not end the player."""
+        """Appends output. If the output cannot be written, it is lost, because a full disk must not end the player."""
         with contextlib.suppress(OSError):
             if self.size > MOST_BYTES:
                 os.replace(self.path, f"{self.path}.1")

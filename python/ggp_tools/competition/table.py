@@ -1,5 +1,5 @@
-"""The table of a competition: the results of each player in each game and in all of them, the crosstable, and the ratings. It follows from the
-records, as "The table" in docs/COMPETITION.md describes it."""
+"""Computes the table of a competition: the results of each player in each game and in all games, the crosstable, and the ratings. "The
+table" in docs/COMPETITION.md describes how the table follows from the records."""
 
 import itertools
 from collections import Counter
@@ -169,7 +169,7 @@ def ratings_of(table: Table, anchor: Mapping[str, int], known: Known | None) -> 
 def tables_of(
     competition: Competition, results: Sequence[Result], rounds: Sequence[Round] = (), is_rated: bool = True, known: Known | None = None
 ) -> list[Table]:
-    """Returns the tables: first that of all games, then that of each game."""
+    """Returns the tables: first the table of all games, then the table of each game."""
     names = [entrant.name for entrant in competition.players]
     kind = competition.form.kind if is_by_rounds(competition) else ""
     order, order_of_game = FINAL if competition.form.final else kind or competition.order, BY_POINTS if kind else competition.order

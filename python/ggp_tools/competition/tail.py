@@ -36,7 +36,8 @@ class Tail(Generic[T]):
     def __init__(self, path: str, parse: Callable[[bytes], T | None], later: str = "") -> None:
         self.path, self.parse, self.later = path, parse, later
         self.place, self.number, self.head = 0, None, b""
-        # Whether some lines of the extent are still unread, and whether only the beginning of a line has been read, because the line is too long.
+        # Whether some lines of the extent are still unread; and whether only the beginning of a line has been read, because the line is too
+        # long.
         self.is_behind = self.is_within = False
 
     def added(self, extent: Extent) -> tuple[list[T], bool]:

@@ -1,4 +1,5 @@
-"""Reads TOML with the line of each value. Python's parser does not report lines, so they are found in the text that it has accepted."""
+"""Reads TOML with the line of each value. Python's parser does not report lines, so this module finds them in the text that the parser has
+accepted."""
 
 import itertools
 import re
@@ -8,7 +9,7 @@ from collections.abc import Iterator
 
 # The keys and indexes that lead to a value.
 Path = tuple[str | int, ...]
-# The tokens of a statement, each with its line, and with how many brackets and braces are open after it.
+# The tokens of a statement, each with its line and with the number of brackets and braces that are open after it.
 Statement = list[tuple[int, str, int]]
 # Multi-line and single-line strings, comments, punctuation, and everything between them.
 TOKEN = re.compile(
@@ -21,8 +22,8 @@ KEY = re.compile(r"\s*([A-Za-z0-9_-]+)")
 
 # The time in which Python's parser reads a dotted key grows with the square of the number of dots, so more dots than this are refused.
 MOST_DOTS = 100
-# Each key, table and member of an array has one of these signs. Because each value takes memory, a file may have only this many signs, which suffice
-# for the longest schedule and the maximum number of players.
+# Each key, table and member of an array has one of these signs. Because each value takes memory, a file may have only this many signs,
+# which suffices for the longest schedule and the maximum number of players.
 SIGNS, MOST_SIGNS = frozenset("=,["), 150_000
 
 
@@ -35,7 +36,7 @@ class TomlFault(Exception):
 
 
 def read_toml(text: str) -> tuple[dict, dict[Path, int]]:
-    """Returns the values of a text, and the lines of its tables, of the keys in them, and of the members of arrays."""
+    """Returns the values of a text. Also returns the lines of its tables, of the keys in them, and of the members of arrays."""
     if text.count(".") > MOST_DOTS or sum(map(text.count, SIGNS)) > MOST_SIGNS:
         refuse_too_many(text)
     try:

@@ -19,7 +19,7 @@ from ggp_tools.printable import counted, message_of
 from ggp_tools.records.show import read_record
 
 TIMED = re.compile(rf"({MOMENT}) (.*)")
-# The beginnings of the journal's rows about a match and about its round. Players, games and matches may have the same names.
+# How the journal's rows about a match and about its round begin. Players, games and matches may have the same names.
 ROWS = (
     "(?:begin|end|no record|back|silent|info|abort|no answer to abort|lost|refused|aside|missing|start|restart|died|down) {match}[ :]"
     r"|stopped \S+, because {match} |round {round} of "
@@ -114,7 +114,7 @@ class Explanation:
         return players.index(player) if kind in OF_PLAYER and player in players else None
 
     def runs(self) -> list[list[Entry]]:
-        """Returns the messages of each run of the match from its log, which may still be growing."""
+        """Returns the messages of each run of the match. They come from the match's log, which may still be growing."""
         open_log = self.folder.room_log(self.match.id)
         file = open_log if not self.record and open_log.is_file() else self.folder.log(self.match.id)
         with opened_file(file) if file.is_file() else contextlib.nullcontext(io.BytesIO()) as log:
@@ -124,7 +124,7 @@ class Explanation:
         return [[self.entry_of(message, run is runs[-1]) for message in run] for run in runs]
 
     def entry_of(self, message: Message, counts: bool) -> Entry:
-        """Explains a message to a role and its answer. If the message is in the record, this also says what was played."""
+        """Explains a message to a role and its answer. If the message is in the record, also says which move was played."""
         head = f"turn {message.turn()}: {PLAY}" if message.kind == PLAY else str(message.kind)
         came = message_of(message.came())
         text = f"{head} brought {came} after {message.ms} ms" if message.error else f"{head} was answered `{came}` after {message.ms} ms"
@@ -162,7 +162,7 @@ class Explanation:
         return f"; {moves}" if moves else ""
 
     def turn_text(self, role: int, turn: int, answer: str) -> str:
-        """Says what was played for a role in a turn, and why."""
+        """Says which move was played for a role in a turn, and why."""
         if turn >= len(self.record["moves"]):
             return "the match was given up before that turn was played"
         move, error = self.record["moves"][turn][role], self.record["errors"][turn][role]

@@ -22,7 +22,7 @@ def cache() -> pathlib.Path:
 
 
 def sealed(name: str, data: bytes) -> bytes:
-    """Returns the contents of a cached file with a checksum over the contents and the name, so that the file is invalid under another name."""
+    """Returns the contents of a cached file, with a checksum of the contents and the name. So the file is invalid under another name."""
     return hashlib.sha256(f"{name}\n".encode() + data).hexdigest().encode() + b"\n" + data
 
 

@@ -32,7 +32,7 @@ class NoDescription(Exception):
 
 
 class Stopped(NoDescription):
-    """The time limit was reached before anything was known about a description."""
+    """The time limit was reached before the description was found to be valid or invalid."""
 
 
 @dataclass(frozen=True)
@@ -100,7 +100,7 @@ def instantiated(path: pathlib.Path, text: bytes, tells_variables: bool, seconds
     with tempfile.TemporaryDirectory() as directory:
         player_rules = pathlib.Path(directory) / "player_rules"
         words = [f"--seconds={seconds}", *large, *(["--player-rules", str(player_rules)] if tells_variables else [])]
-        # A name that begins with a hyphen would be an option.
+        # A path that begins with a hyphen would be parsed as an option.
         run = run_module("instantiating.command", *words, os.path.abspath(path))
         if run.returncode:
             raise (Stopped if STOPPED.match(why_not(run).splitlines()[-1]) else NoDescription)(why_not(run))
@@ -118,8 +118,8 @@ def rules_of(
     text: bytes, name: pathlib.Path | str, referee: Referee, player_rules: bytes | None = None, description_sum: str | None = None,
     notes: tuple[str, ...] = (),
 ) -> Rules:
-    """Returns the rules of a ground description, with the roles that the referee reads in it. If the description exceeds the usual limits, the large
-    ones apply. If the referee refuses the rules, raises an error with its message."""
+    """Returns the rules of a ground description, with the roles that the referee finds in it. If the description exceeds the usual limits,
+    the large limits apply. If the referee refuses the rules, raises an error with the referee's message."""
     large = referee.taking(True)
     programs = [large] if referee.is_large or LARGE_NOTE in notes_of(text) else [referee, large]
     for program in programs:

@@ -38,7 +38,8 @@ OFTEN = {
     "not": "~ ! no".split(),
     "or": "| ||".split(),
 }
-# The similarity of two words, the maximum lengths of a sentence and of the list, and the maximum number of names to compare.
+# The least similarity of two words that count as alike, the maximum lengths of a quoted sentence and of the list of lines, and the maximum
+# number of names to compare.
 ALIKE, MOST_SHOWN, MOST_LINES, MOST_COMPARED = 0.75, 80, 100, 20_000
 MOST_LISTED = 3
 TOO_LONG = f"no player can make this move: its text is longer than {MOST_OF_MOVE:,} bytes"
@@ -99,7 +100,7 @@ def places(atom: Expression, way: Way = ()) -> Iterator[tuple[Way, object]]:
 
 
 def without_names(term: Expression) -> Expression:
-    """Replaces all variables of a term with the same one."""
+    """Replaces all variables of a term with the same variable."""
     if isinstance(term, str):
         return "?" if term.startswith("?") else term
     return tuple(map(without_names, term))
@@ -125,7 +126,7 @@ class Index:
 
 
 class Atoms:
-    """Atomic sentences by their relations."""
+    """Groups atomic sentences by their relations."""
 
     def __init__(self, atoms: Iterable[Expression]) -> None:
         self.plain, self.open = {}, {}
@@ -187,7 +188,7 @@ class Description:
         self.asks.setdefault(relation(part.atom), set()).update(relation(part.atom) for part in asked)
 
     def needed(self) -> set[Relation]:
-        """Returns the relations of the game, and those that they depend on."""
+        """Returns the relations that define the game, and the relations on which these depend."""
         return OWN | reached(self.asks, OWN)
 
     def told_places(self, parts: list[Part]) -> dict[tuple[int, Way], str]:
@@ -200,7 +201,7 @@ class Description:
 
 
 def member_starts(text: str, at: int, ways: set[tuple]) -> dict[tuple, int]:
-    """Returns where the members at these paths of a sentence begin."""
+    """Returns the indices at which the members at these paths of a sentence begin."""
     indices, way = {}, []
     for token in TOKEN.finditer(text, at):
         if token[0] == ")":
@@ -236,7 +237,7 @@ def shown_form(name: str, count: int | None) -> str:
 
 
 def listed(name: str, counts: Sequence[int | None]) -> str:
-    """Returns the forms of a relation with these numbers of arguments, but only the first few if there are many."""
+    """Returns the forms of a relation with these numbers of arguments. If there are many, returns only the first few."""
     return " and ".join([f"`{shown_form(name, count)}`" for count in counts[:MOST_LISTED]] + ["others"] * (len(counts) > MOST_LISTED))
 
 
@@ -268,7 +269,8 @@ class Search:
             self.known, self.facts = Atoms(heads), {sentence for sentence in sentences if sentence[:1] != ("<=",)}
 
     def findings(self) -> Iterator[Finding]:
-        """Yields the findings. If a sentence is malformed, only misspelt heads are reported, because others may depend on it."""
+        """Yields the findings. If a sentence is malformed, only misspelt heads are reported, because other findings may depend on this
+        sentence."""
         for part, why in self.description.secrets.items():
             yield Finding(part, why, ("secret", relation(part.atom)))
         for part in self.description.heads:
@@ -376,7 +378,7 @@ class Search:
             yield Finding(parts[0]._replace(atom=atom) if is_sure else None, words if is_sure else f"{words}: {quoted(atom, MOST_SHOWN)}", kind)
 
     def of_roles(self) -> Iterator[Finding]:
-        """Yields a finding for each role without legal moves or goals, and one if no match can end."""
+        """Yields a finding for each role without legal moves or goals, and a finding if no match can end."""
         for atom in self.known.plain.get(("role", 1), ()):
             self.look_at_clock()
             for name in ("legal", "goal"):
@@ -411,7 +413,7 @@ def suspicions(text: bytes, ground: bytes | None = None, seconds: float | None =
 
 
 def lines_of(description: Description, found: list[Finding]) -> list[str]:
-    """Returns the lines for findings, one for each kind, with the place of the first finding of the kind."""
+    """Returns a line for each kind of finding, with the place of the first finding of this kind."""
     counts, firsts = Counter(finding.kind for finding in found), {}
     for finding in sorted(found, key=lambda finding: finding.part[:2] if finding.part else (len(description.starts), ())):
         firsts.setdefault(finding.kind, finding)

@@ -23,7 +23,7 @@ least one could not be checked, because it took too long or the description is n
 SECONDS = 60.0
 # The interpreter evaluates nested rules with nested calls.
 MOST_CALLS = 100_000
-# The limit of memory, the same as for the grounder of `ggp-instantiate`.
+# The limit of memory. It is the same as for the grounder of `ggp-instantiate`.
 MEMORY = 2 << 30
 SAME, DIFFERENT, NOT_FOLLOWED = 0, 1, 3
 
@@ -84,7 +84,7 @@ def place_of(why: BaseException) -> str:
 
 
 def hold(holding: Holding, lines: Iterable[str], limit: float) -> Iterator[tuple[int, str]]:
-    """Yields an exit status and a message for each record, each within the time limit."""
+    """Yields an exit status and a message for each record. The time limit applies to each record separately."""
     for line in lines:
         try:
             with limited(limit):

@@ -16,7 +16,7 @@ from .relations import Relations
 
 # The Python expression for each bound variable.
 Bound = dict[str, str]
-# Python allows twenty nested blocks.
+# Python allows at most twenty nested blocks.
 MOST_DEPTH = 12
 
 
@@ -87,7 +87,7 @@ class Program:
         return number
 
     def facts(self, relation: Relation, places: tuple[int, ...] | None) -> str:
-        """Returns the name of the facts of a relation: a table of all facts, or an index by these arguments."""
+        """Returns the name of a table with all facts of a relation, or of an index of the facts by these arguments."""
         key = "facts", relation, places
         if key not in self.made:
             rows = self.relations.facts.get(relation, {})
@@ -100,7 +100,7 @@ class Program:
 
 
 class Lines:
-    """Lines of Python code. `place` is the indentation, `depth` the number of nested loops."""
+    """Lines of Python code. `place` is the indentation, and `depth` is the number of nested loops."""
 
     def __init__(self, program: Program, extra: str = "") -> None:
         self.program, self.lines, self.helpers, self.extra = program, [], [], extra
@@ -130,7 +130,7 @@ class Lines:
                     self.part(place, member, f"{value}[{index}]", bound)
 
     def part(self, place: int, pattern: Term, value: str, bound: Bound) -> None:
-        """Matches a part of a term. The part is assigned to a variable if it is used more than once."""
+        """Writes lines that match a part of a term. If the part is used more than once, it is assigned to a variable."""
         if not is_known(pattern, bound):
             name = self.fresh()
             self.put(place, f"{name} = {value}")
@@ -392,7 +392,7 @@ Finish = Truth | Answer | Derived
 
 
 class Asking:
-    """The function of a relation for known arguments."""
+    """Writes the function of a relation for queries that give certain arguments."""
 
     def __init__(self, program: Program, name: str, relation: Relation, known: tuple[bool, ...]) -> None:
         self.program, self.name, self.relation, self.known = program, name, relation, known
@@ -441,7 +441,7 @@ class Asking:
         lines.put(2, f"F[{key_text([f'R[{at}]' for at, is_given in enumerate(self.known) if not is_given])}] = None")
 
     def put_rule(self, lines: Lines, arguments: Sequence[Term], body: tuple[Condition, ...]) -> None:
-        """Writes the lines of a rule whose head has the known arguments."""
+        """Writes the lines of a rule. The known arguments must match its head."""
         bound = {}
         lines.put(1, "for _ in ONE:")
         for at, argument in enumerate(arguments):
@@ -451,7 +451,7 @@ class Asking:
         lines.body(2, body, bound, TRUTH if self.is_test else Answer(free))
 
     def kept(self) -> Iterator[str]:
-        """Yields the function that caches results."""
+        """Yields the lines of the function that caches results."""
         number = self.program.table((self.relation, self.known), self.relation in self.program.relations.timely)
         words, key = ["D", *self.parameters], key_text(self.parameters) if self.parameters else "0"
         yield f"def {self.name}({', '.join(words)}):"
@@ -469,7 +469,7 @@ class Asking:
 
 
 class Circle:
-    """The function that derives all rows of a cycle of relations."""
+    """Writes the function that derives all rows of a cycle of relations."""
 
     def __init__(self, program: Program, name: str, circle: tuple[Relation, ...]) -> None:
         self.program, self.name, self.circle = program, name, circle

@@ -1,4 +1,4 @@
-"""Replays a record with the published description, and checks its roles, states, moves, errors, end and goals."""
+"""Replays a record according to the published description, and checks its roles, states, moves, errors, end and goals."""
 
 import functools
 from collections.abc import Callable, Sequence
@@ -16,7 +16,7 @@ ILLEGAL, UNREADABLE = "IL ", "IL ?"
 
 
 class Differs(Exception):
-    """The differences between the record and the description, in lines."""
+    """The record differs from the description. The message has a line for each difference."""
 
 
 def read_record(line: bytes | str) -> dict:

@@ -1,4 +1,4 @@
-"""Interprets a game description: its first state, and in each state the legal moves, the next state, the end and the goals."""
+"""Interprets a game description: computes its first state and, for each state, the legal moves, the next state, the end and the goals."""
 
 import re
 from collections.abc import Sequence
@@ -50,7 +50,7 @@ class Game:
             self.program.function(relation, known)
 
     def following(self, position: Position) -> list[Term]:
-        """Returns the terms of the state after the moves of a position."""
+        """Returns the terms of the next state, after the moves of a position."""
         return position.ask(NEXT, (False,))(position)
 
     def is_legal(self, position: Position, role: Term, move: Term) -> bool:

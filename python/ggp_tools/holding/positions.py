@@ -9,7 +9,7 @@ from ggp_tools.kif import grouped
 from .reading import Term
 
 State = frozenset[Term]
-# Rows by their values at some indices.
+# An index of rows by their values at some positions.
 Rows = dict[object, list[Term]]
 NONE = ()
 

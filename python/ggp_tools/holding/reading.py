@@ -54,7 +54,7 @@ class Rule(NamedTuple):
 
 
 def term_of(text: str) -> Term:
-    """Parses a move, or a term of a state."""
+    """Parses a move or a term of a state."""
     parsed = expressions(text)
     if len(parsed) != 1:
         raise NotFollowed("it is not a record: a text of it is not one term")

@@ -18,7 +18,7 @@ from .formulas import FALSE, TRUE, Formulas
 from ggp_tools.kif import DIGITS, Expression, Refused, atoms, fresh, relation
 from ggp_tools.gdl import GAME, Rule
 
-# The numbers of the formulas of a body.
+# A body: the numbers of its formulas.
 Formed = frozenset[int]
 # The maximum nesting of joined sentences.
 MOST_DEEP = 48
@@ -219,7 +219,7 @@ class Folded:
     # ---- Inlining --------------------------------------------------------------------------------
 
     def uses(self) -> list[int]:
-        """Returns how often each formula occurs in the text."""
+        """Returns, for each formula, how often it occurs in the text."""
         counts = [0] * len(self.formulas.nodes)
         for bodies in self.bodies.values():
             for body in bodies:
@@ -397,7 +397,8 @@ class Folded:
         return frozenset(self.formulas.replaced(formula, known, False) for formula in body)
 
     def name_parts(self, chosen: list[int]) -> None:
-        """Gives each of these formulas a sentence, the smaller ones first, and uses its name wherever the formula occurs."""
+        """Gives each of these formulas a sentence, the smaller ones first. Replaces the formula with the name of its sentence wherever it
+        occurs."""
         known, made = {}, {}
         for number in chosen:
             name = self.new_part()
@@ -416,7 +417,7 @@ class Folded:
     # ---- Output ----------------------------------------------------------------------------------
 
     def written(self) -> Iterator[tuple[int, Expression]]:
-        """Yields each sentence with the number of the sentence that it comes from."""
+        """Yields each sentence with the number of the sentence from which it was made."""
         for head, bodies in self.bodies.items():
             atom = self.formulas.nodes[head][1]
             for body in bodies:
@@ -431,8 +432,8 @@ def scaled(shares: Mapping[int, float], size: float) -> dict[int, float]:
 
 
 def merged(bodies: list[Formed], formulas: Formulas, origins: dict[Formed, Counter[int]]) -> list[Formed]:
-    """Merges bodies that differ in only one literal into one with an `or`, as long as there are such bodies. A merged body has the origins of all
-    bodies that it was made from."""
+    """As long as two bodies differ in only one literal, merges them into one body with an `or`. A merged body has the origins of all bodies
+    from which it was made."""
     while True:
         groups, known = {}, set(bodies)
         for body in bodies:

@@ -59,7 +59,7 @@ class Formulas:
         return FALSE if not members else TRUE if self.has_all_moves(members) else self.listed(members)
 
     def alternatives(self, numbers: Iterable[int]) -> set[int]:
-        """Returns these formulas, with each `or` replaced by its members."""
+        """Returns these formulas, but replaces each `or` with its members."""
         return {member for number in numbers for member in (self.members(number) if self.nodes[number][0] == "or" else (number,))}
 
     def listed(self, members: set[int]) -> int:
@@ -79,7 +79,7 @@ class Formulas:
         return self.no(self.any([self.no(number) for number in numbers]))
 
     def members(self, number: int) -> tuple[int, ...]:
-        """Returns the formulas that this one joins or negates."""
+        """Returns the formulas that this formula joins or negates."""
         node = self.nodes[number]
         return (node[1],) if node[0] == "not" else node[1] if node[0] == "or" else ()
 

@@ -176,5 +176,5 @@ def limit_process(seconds: float) -> None:
     resource.setrlimit(resource.RLIMIT_AS, (MEMORY, MEMORY))
     if seconds < math.inf:
         most = math.ceil(seconds)
-        # SIGXCPU, which shows the reason, comes at the soft limit. At the hard limit the process would only be killed.
+        # At the soft limit, the process gets SIGXCPU, which shows the reason. At the hard limit, it would only be killed.
         resource.setrlimit(resource.RLIMIT_CPU, (most, most + 1))

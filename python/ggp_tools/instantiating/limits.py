@@ -1,4 +1,4 @@
-"""The limits of the referee, the ground rules that it refuses, and rules that derive infinitely many instances."""
+"""Checks the limits of the referee, and finds ground rules that it refuses, and rules that derive infinitely many instances."""
 
 import re
 from collections import Counter
@@ -41,7 +41,7 @@ def is_high(atom: Expression) -> bool:
 
 
 def refuse_faults(rules: list[Rule]) -> None:
-    """Refuses rules that the referee refuses: invalid goals, roles with conditions, and a game without roles."""
+    """Refuses everything that the referee refuses in rules: invalid goals, roles with conditions, and a game without roles."""
     for rule in rules:
         for atom in rule.atoms():
             if relation(atom)[0] == "goal" and not (isinstance(atom[2], str) and GOAL.fullmatch(atom[2])):

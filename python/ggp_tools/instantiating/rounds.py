@@ -74,7 +74,7 @@ def halves(whole: Expression, first: Expression, second: Expression) -> bool:
 
 
 def last_round(circle: list[Expression], rules_for: RulesFor) -> int:
-    """Returns the number of the round after which nothing new is derived."""
+    """Returns the number of the last round in which a new sentence may be derived."""
     if is_halved(circle, rules_for):
         return (len({term for atom in circle for term in atom[1:]}) - 1).bit_length()
     steps = steps_of(circle, rules_for)
@@ -84,8 +84,8 @@ def last_round(circle: list[Expression], rules_for: RulesFor) -> int:
 
 
 def steps_of(circle: list[Expression], rules_for: RulesFor) -> dict[Expression, set[Expression]]:
-    """Returns for each sentence the sentences from which it can be derived. Returns None unless each rule uses exactly one sentence of the cycle,
-    with the same further conditions."""
+    """Returns, for each sentence, the sentences from which it can be derived. Returns None if a rule uses several sentences of the cycle,
+    or if the further conditions are not always the same."""
     members, steps = set(circle), {}
     for atom in circle:
         conditions = {}
@@ -128,7 +128,7 @@ def refuse_denial(circle: list[Expression], rules_for: RulesFor) -> None:
 
 
 def alive(circle: list[Expression], rules_for: RulesFor, last: int) -> list[set[Expression]]:
-    """Returns for each round the sentences that can be derived in it."""
+    """Returns, for each round, the sentences that can be derived in it."""
     members, rounds = set(circle), [set()]
     for _ in range(last + 1):
         below = rounds[-1]

@@ -1,8 +1,9 @@
 """Splits rules that join independent parts before they are grounded.
 
-The number of instances of a rule is the product over all of its variables. A part of the body that shares only a few variables with the rest and the
-head becomes an auxiliary relation over these variables (`split1`, `split2` ..). Then the product becomes a sum. The meaning is the same, because the
-other variables of the part occur nowhere else. Relations that depend on themselves are not split."""
+The number of instances of a rule may be as large as the product of the numbers of values of all its variables. A part of the body that
+shares only a few variables with the rest and the head becomes an auxiliary relation over these variables (`split1`, `split2` ..). Then the
+product becomes a sum of smaller products. The meaning is the same, because the other variables of the part occur nowhere else. Relations
+that depend on themselves are not split."""
 
 import itertools
 from operator import attrgetter
@@ -11,7 +12,7 @@ from typing import NamedTuple
 from ggp_tools.kif import DIGITS, applied, atoms, fresh, put, relation, variables
 from ggp_tools.gdl import Literal, Relations, Rule
 
-# Longer bodies have too many parts to try all of them. Rules with fewer variables have no parts to split off.
+# Bodies with more literals have too many parts to try all of them. Rules with fewer variables have no parts to split off.
 MOST_LITERALS, FEW_VARIABLES = 13, 3
 
 

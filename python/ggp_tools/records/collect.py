@@ -137,7 +137,7 @@ def report_others(count: int) -> None:
 
 
 def print_log(paths: list[str]) -> int:
-    """Prints logs as text. Returns the exit status, which is 1 if a line is not an event."""
+    """Prints logs as text. Returns 1 if a line is not an event, otherwise 0."""
     others = 0
     for line in lines_of_logs(paths):
         event = event_of(line)

@@ -1,4 +1,4 @@
-"""The messages of a match that follow from its record."""
+"""Derives the messages of a match from its record."""
 
 from collections.abc import Iterator
 
@@ -8,14 +8,14 @@ from ggp_tools.records.record import ABORTED, COMPLETED
 
 
 class Exchanges:
-    """The messages of a match, as far as they follow from its record: their texts, and which answers were broken."""
+    """The part of a match's messages that follows from its record: the texts, and which answers were broken."""
 
     def __init__(self, record: dict) -> None:
         self.record, self.players = record, record["players"]
         joints = ["NIL", *(f"({' '.join(moves)})" for moves in record["moves"])]
         self.plays = [self.text("PLAY", joint) for joint in joints]
         completed, aborted = {"STOP": self.text("STOP", joints[-1])}, {"ABORT": self.text("ABORT")}
-        # The last message of the match by its kind. It is empty if the match is not over.
+        # By its kind, the text of the last message. If the match is not over, there is none.
         self.ends = completed if record["phase"] in COMPLETED else aborted if record["phase"] in ABORTED else {}
         errors = [[turn[role] for turn in record["errors"]] for role in range(len(self.players))]
         # The number of turns in which each role was asked for a move. A retired role stays retired.

@@ -41,7 +41,7 @@ def listed(texts: Sequence[str]) -> str:
 
 
 def end_words(phase: str, cause: str | None, names: Sequence[str]) -> str:
-    """Describes a phase with its cause. If the cause has the number of a role, the name of the role follows."""
+    """Describes a phase with its cause. If the cause contains the number of a role, the name of the role is added."""
     number = (cause or "").partition(" ")[2]
     return f"phase {phase}, cause {cause or 'null'}" + (f" (the role {names[int(number)]})" if number else "")
 
@@ -62,7 +62,7 @@ Found = tuple[str, ...]
 
 
 class Replay(Match):
-    """Replays a record that has the right shape in the interpreter."""
+    """Replays a record in the interpreter. The record must have the right shape."""
 
     def __init__(self, game: Game, record: dict, names: Sequence[str]) -> None:
         super().__init__(game, record["matchId"], record["startClock"], record["playClock"], record["players"])

@@ -1,5 +1,5 @@
-"""Writes records in three formats: pages with an index; matches of ggp-base, each a JSON object in its own file; and text similar to PGN, with
-headers for each match and a line for each turn. Times come from logs. examples/records/README.md describes the formats."""
+"""Writes records in three formats: pages with an index; matches of ggp-base, each as a JSON object in a separate file; and text similar to
+PGN, with headers for each match and a line for each turn. Times come from logs. examples/records/README.md describes the formats."""
 
 import hashlib
 import json
@@ -16,7 +16,7 @@ from ggp_tools.records.show import page_of, winner_words
 from ggp_tools.records.tables import made_whole
 from ggp_tools.templating import page
 
-# The characters that are replaced in the name of a file, and in the name of a header.
+# Characters that are replaced: in the name of a file, and in the name of a header.
 OTHERS, NOT_IN_HEADERS = re.compile(r"[^A-Za-z0-9._-]"), re.compile("[^A-Za-z0-9_]")
 LONGEST_ID = 64
 

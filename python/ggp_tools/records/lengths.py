@@ -1,4 +1,4 @@
-"""Computes the maximum length of a record, and reads only some states of records that are too long to be parsed as a whole."""
+"""Computes the maximum length of a record. If a record is too long to be parsed as a whole, reads only some of its states."""
 
 import functools
 import json
@@ -6,7 +6,7 @@ from collections.abc import Iterator
 
 from ggp_tools.kif import Expression, expressions, head_of, spelled
 
-# Most games cannot have longer records, and the others rarely do.
+# The records of most games cannot be longer than this, and those of other games rarely are.
 USUAL_RECORD = 16 << 20
 # The longest call log that `replay` accepts.
 LONGEST_ACCOUNT = 256 << 20
@@ -44,7 +44,7 @@ def without_states(data: bytes) -> bytes:
 
 
 def states_in(data: bytes, most: int | None = None) -> Iterator[list[str]]:
-    """Yields the states of a record that fit into this many bytes."""
+    """Yields as many of a record's first states as fit into this many bytes."""
     begin = data.find(STATES) + len(STATES)
     text, index = data[begin : None if most is None else begin + most].decode("latin-1"), 0
     decoder = json.JSONDecoder()

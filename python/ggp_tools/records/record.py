@@ -22,8 +22,8 @@ CAUSE = re.compile(r"(asked|toolong|allretired)|(nolegal|nogoal) (0|[1-9][0-9]?)
 # not match, because no reply ends like a record.
 ACCOUNT_LINE = re.compile(rb"[0-9]+\t(?:open|strict|next|submit|miss|query|abort)(?: [^\t]*)?\t[^\t]*[0-9A-Za-z)]")
 LONGEST_EXPRESSION, MOST_OF_VALUE, MOST_OF_ROLES = 8_192, 80, 1_000
-# The JSON parser is recursive, and more than ROOM calls overflow its stack. Records are nested three lists deep. The recursion limit applies to all
-# threads, so it is lowered only if a command has raised it above ROOM; such commands have no other threads.
+# The JSON parser is recursive, and more than ROOM calls overflow its stack. Records are nested three lists deep. The recursion limit
+# applies to all threads, so it is lowered only if a command has raised it above ROOM. Such a command has no other threads.
 ROOM, MOST_CALLS = 20_000, 1_000
 
 # ---- JSON
@@ -42,7 +42,7 @@ JSON_WORDS = {
 
 
 class NoRecord(Refused):
-    """Why a text is not a record."""
+    """The reason why a text is not a record."""
 
 
 def parsed(data: bytes | str) -> object:
@@ -94,7 +94,7 @@ def cut_lines(doc: str, why: json.JSONDecodeError) -> list[str]:
 
 # ---- the keys of a record
 
-# Checks the type of a value.
+# The type of a function that checks the type of a value.
 Kind = Callable[[object], bool]
 
 
@@ -111,7 +111,7 @@ def is_text_or_null(value: object) -> bool:
 
 
 def is_list(value: object, is_member: Kind, lengths: list[int] | None = None) -> bool:
-    """Returns whether a value is a list of such members, of one of these lengths if any are given."""
+    """Returns whether a value is a list of members that `is_member` accepts. If `lengths` is given, its length must be one of them."""
     return isinstance(value, list) and all(map(is_member, value)) and (lengths is None or len(value) in lengths)
 
 
@@ -200,7 +200,8 @@ def check_lengths(record: dict, is_cut: bool) -> None:
 
 
 def checked_record(record: object, is_cut: bool = False) -> dict:
-    """Checks the shape of a record, as far as a page needs it, and sets a missing version to 1. A truncated record lacks its last states."""
+    """Checks whether a record has the shape that a page needs. If the record has no version, sets the version to 1. A truncated record
+    lacks its last states."""
     if not isinstance(record, dict):
         raise NoRecord("it is JSON, but not an object")
     record.setdefault("version", 1)
@@ -218,8 +219,8 @@ def checked_record(record: object, is_cut: bool = False) -> dict:
 
 
 def read_record(data: bytes) -> dict:
-    """Parses a record. If it is longer than 16 MiB, `states` has only the first states, as many as fit into 16 MiB."""
-    # The newline is not part of the record.
+    """Parses a record. If it is longer than 16 MiB, `states` has only the first states that fit into 16 MiB."""
+    # The newline at the end is not part of the record.
     if len(data) - data.endswith(b"\n") <= LONGEST_RECORD:
         return checked_record(parsed(data))
     rest = without_states(data)
@@ -232,12 +233,13 @@ def read_record(data: bytes) -> dict:
 
 
 def record_sum(data: bytes) -> str:
-    """Returns the checksum of the line of a record, with one LF at its end."""
+    """Returns the checksum of a record's line, with one LF at its end."""
     return hashlib.sha256(data.rstrip(b"\r\n") + b"\n").hexdigest()
 
 
 def numbered_lines(lines: BinaryIO) -> Iterator[tuple[int, bytes]]:
-    """Yields the lines of a file with their numbers. A line that is too long is cut, to just above the limit."""
+    """Yields the lines of a file with their numbers. Of a line that is too long, only the beginning is returned, which is just longer than
+    the limit."""
     return ((number, data.rstrip(b"\r\n")) for number, (data, _) in enumerate(limited_lines(lines, LONGEST_RECORD + 3), 1))
 
 

@@ -32,8 +32,9 @@ ONE_RECORD = "Pass one record, or make a page of each with `ggp-records pages`"
 LONGEST_AXIS = 32
 # A page that would have more boards lists terms instead, because a board is about a hundred times as long as its terms.
 MOST_DRAWN = 32_768
-# A state is drawn from at most MOST_READ terms: its own, those of earlier states, and those of the rules. Its boards have at most MOST_PLACES places
-# and names in total. These limits keep the processor time of a drawing below about half a second. A larger state is listed as text.
+# At most MOST_READ terms are read to draw a state: its own terms, those of earlier states, and those of the rules. Its boards have at most
+# MOST_PLACES places and names in total. These limits keep the processor time of a drawing below about half a second. A larger state is
+# listed as text.
 MOST_READ, MOST_PLACES = 16_384, 4_096
 # The page of a long match has parts. The states of a part have at most this many terms in total, so that drawing a part takes about as long
 # as drawing the largest state. Terms with more than this many letters on average count as more terms.
@@ -103,7 +104,7 @@ def record_of(file: BinaryIO) -> bytes:
 
 @functools.lru_cache(MOST_TERMS)
 def words_of(term: str) -> list[str]:
-    """Returns the members of a term if the term is a list of atoms, or else an empty list."""
+    """If a term is a list of atoms, returns its members, otherwise an empty list."""
     is_flat = term.startswith("(") and term.endswith(")") and not re.search(r"[()]", term[1:-1])
     return term[1:-1].split(" ") if is_flat else []
 
@@ -113,8 +114,8 @@ def group_of(words: Sequence[str]) -> Group:
 
 
 def axis_of(values: Iterable[str]) -> list[str] | None:
-    """Returns the places of an axis in order: numbers, each with at most one letter before it, or single letters. Returns None if the values are not
-    such places."""
+    """Returns the places of an axis in order. They are numbers, each with at most one letter before it, or single letters. If the values
+    have another form, returns None."""
     if all(re.fullmatch("[a-z]", value) for value in values):
         axis = [chr(number) for number in range(ord(min(values)), ord(max(values)) + 1)]
     else:
@@ -162,7 +163,7 @@ class Board:
         return set(itertools.product(range(1, len(self.across) + 1), range(1, len(self.up) + 1)))
 
     def size(self, is_played: bool) -> int:
-        """Returns the maximum number of places, and names of columns and rows, that are drawn."""
+        """Returns the maximum number of places, of names of columns, and of names of rows that are drawn, in total."""
         return len(self.across) + len(self.up) + (len(self.across) * len(self.up) if is_played else len(self.places))
 
     def place(self, words: tuple[str, ...]) -> tuple[int, int, str]:
@@ -177,8 +178,8 @@ class Board:
 
 
 def lean_of(places: set[Place]) -> int:
-    """Returns the lean of a board of hexagons whose places form a hexagon, a star or a triangle, and are not changed by a rotation of 120 degrees.
-    Returns 0 for other places."""
+    """Returns the lean of a board of hexagons, or 0 for other boards. The places of such a board form a hexagon, a star or a triangle, and
+    a rotation by 120 degrees does not change them."""
     count, across, up = len(places), sum(x for x, _ in places), sum(y for _, y in places)
     for lean in (1, -1) if count > 6 else ():
         around = {(count * x - across, lean * (count * y - up)) for x, y in places}
@@ -188,7 +189,7 @@ def lean_of(places: set[Place]) -> int:
 
 
 def places_of(move: str, board: Board) -> list[Place]:
-    """Returns, in order, the places of a board that a move names with two consecutive arguments."""
+    """Returns the places of a board that a move names with two consecutive arguments, in their order."""
     words, places, index = words_of(move), [], 1
     while index + 1 < len(words):
         if words[index] in board.across and words[index + 1] in board.up:
@@ -200,13 +201,13 @@ def places_of(move: str, board: Board) -> list[Place]:
 
 
 def members_of(states: Iterable[list[list[str]]]) -> list[set[str]]:
-    """Returns the words that each member of a relation has in these states."""
+    """Returns, for each member of a relation, the words that it has in these states."""
     return list(map(set, zip(*(words for state in states for words in state))))
 
 
 def form_of(words_by_state: list[list[list[str]]], members: list[set[str]]) -> tuple[int, list[int]] | None:
-    """Returns the indices of place and label in the terms of one relation, or None if they do not name places. `members` has the possible words of
-    each member."""
+    """Returns where the terms of one relation have the place and the label, as indices. Returns None if the terms do not name places.
+    `members` has the possible words of each member."""
     # (on X Y); (cell X Y V) and (cell X Y V W); (piece V X Y)
     for at, labels in {3: [(1, [0])], 4: [(1, [3]), (2, [1])], 5: [(1, [3, 4])]}.get(len(members), []):
         if axis_of(members[at]) and axis_of(members[at + 1]):
@@ -241,7 +242,7 @@ class Named:
 
 @functools.lru_cache(16)
 def named_in(rules: bytes, is_hex: bool) -> Named:
-    """Returns the names in a text of rules."""
+    """Returns the terms and moves that a text of rules contains."""
     return Named(expressions(rules.decode("latin-1")), is_hex)
 
 
@@ -256,7 +257,7 @@ def boards_of(states: Iterable[list[str]], named: Named = Named()) -> list[Board
 
 
 def boards_of_terms(terms: dict[Group, dict[int, list[list[str]]]], named: Named) -> list[Board]:
-    """Returns the boards of terms, given by relation and state, with the places that the rules name."""
+    """Returns the boards for terms that are grouped by relation and state. The boards include the places that the rules name."""
     boards, found = {}, []
     for group, by_state in terms.items():
         states, seen = list(by_state.values()), members_of(by_state.values())
@@ -318,8 +319,8 @@ def ground_of(board: Board, places: Places) -> str | None:
 
 @functools.lru_cache(MOST_CELLS)
 def cell(place: Place, name: str, labels: tuple[str, ...], marks: tuple[Mark, ...], kinds: tuple[str, ...], is_played: bool) -> "Markup":
-    """Returns a cell as HTML, as a button if a person plays. If its marks differ from its labels, the labels are its title. Cells are cached, because
-    most are the same in many states."""
+    """Returns a cell as HTML. If a person plays, the cell is a button. If its marks differ from its labels, the labels are its title. Cells
+    are cached, because most of them are the same in many states."""
     is_named = is_played or labels and (len(labels) > 1 or marks[0].text != labels[0])
     words = f"{name}: {', '.join(labels) or 'nothing'}" if is_named else ""
     kinds = " ".join([*kinds, *(marks[0].kinds() if len(marks) == 1 else [])])
@@ -366,7 +367,7 @@ def states_of_page(
         places = [board_places(board, state) for board in boards]
         ground = ground or [ground_of(board, own) for board, own in zip(boards, places)]
         mover = mover_of(state, roles)
-        # If a term only says whose turn it is, the heading of the state says that instead.
+        # If a term says only whose turn it is, the heading of the state replaces it.
         shown_above = [] if mover is None else [term for _, term in named_roles(state, roles) if len(words_of(term)) == 2]
         terms = [term for term in state if group_of(words_of(term)) not in on_boards and term not in shown_above]
         known, known_before = set(terms), known
@@ -391,7 +392,7 @@ def last_state(states: list[list[str]], roles: Sequence[str], named: Named, is_p
 
 
 def named_roles(state: list[str], roles: Sequence[str]) -> list[tuple[str, str]]:
-    """Returns the roles whose turn it is according to the terms of a state, each with its term, such as (control ROLE)."""
+    """Returns the roles whose turn it is according to a state. Each comes with the term that says so, such as (control ROLE)."""
     return [(word, term) for term in state if (found := TURN.fullmatch(term)) for word in found[1].split() if word in roles]
 
 
@@ -403,7 +404,7 @@ def mover_of(state: list[str], roles: Sequence[str]) -> int | None:
 
 
 def turn_of_page(moves: Sequence[str], errors: Sequence[str], mover: int | None, why: Callable[[int, str], str]) -> list[dict[str, object]]:
-    """Returns the moves of a turn by role, with the reasons for replaced moves."""
+    """Returns the moves of a turn by role. Replaced moves have the reason."""
     found = []
     for role, (move, error) in enumerate(zip(moves, errors)):
         # A role whose turn it is not has one legal move, a single word such as `noop`.
@@ -465,7 +466,7 @@ def page_of(
         states = list(states_of_page(all_states, roles, frame.named))
     else:
         states = states_of_part(all_states, part, roles, frame.named)
-    # A record that is too long has only its first states.
+    # Of a record that is too long, only the first states are known.
     last = len(moves) if part is parts[-1] else part.stop - 1
     turns = []
     for turn in range(max(0, part.start - 1), last):

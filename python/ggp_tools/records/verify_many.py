@@ -34,9 +34,9 @@ LONGEST_LINE = 64 << 30
 PIECE = 4 << 20
 MOST_PIECE = 1 << 30
 MOST_JOBS = 1_024
-# The number of bytes of one read.
+# The maximum number of bytes of one read.
 CHUNK = 1 << 20
-# The referee, its option for verdicts as JSON, and the row of each verdict as text.
+# The name of the referee, its option for verdicts as JSON, and the text of each verdict.
 REFEREE, JSON = "ggp_manager", "--json"
 IN_WORDS = {"lawful": "lawful\n", "not_lawful": "not lawful: {fault}\n", "skipped": ""}
 
@@ -67,7 +67,7 @@ def write_whole(stream: int, text: bytes) -> None:
 
 
 def say(text: bytes) -> None:
-    """Writes to standard error, and ignores errors in doing so."""
+    """Writes to standard error. Errors in doing so are ignored."""
     with contextlib.suppress(OSError):
         write_whole(2, text)
 
@@ -96,7 +96,7 @@ def pieces(size: int) -> Iterator[bytes]:
 
 
 def own_words(text: str) -> bytes:
-    """Returns a message of this command. Paths are printed as they were given."""
+    """Returns the bytes of a message of this command. Paths in it are printed as they were given."""
     return os.fsencode(f"ggp-verify-records: {text}\n")
 
 
@@ -173,7 +173,7 @@ def hold_closed_streams() -> None:
 
 
 def arguments(words: list[str]) -> tuple[argparse.Namespace, list[str]]:
-    """Returns the arguments before `--`, and those after it, which are for the referee."""
+    """Returns the arguments before `--`, and the arguments after it, which are passed to the referee."""
     about, usage, more = __doc__.split("\n\n", 2)
     reader = argparse.ArgumentParser("ggp-verify-records", usage=usage.strip(), description=about, epilog=more)
     jobs = len(os.sched_getaffinity(0))
