@@ -1,4 +1,4 @@
-"""Runs other programs to their ends, and describes how they ended."""
+"""Runs other programs and waits until they end. Describes how they ended."""
 
 import contextvars
 import os
@@ -6,16 +6,16 @@ import signal
 import subprocess
 from collections.abc import Sequence
 
-# The beginning of a command line: followed by the number of this process and a command, it runs the command, and kills it when this process ends. If
-# this process has already ended, the command does not run.
+# These arguments, followed by the id of this process and a command, run the command, and kill it when this process ends. If this process
+# has already ended, the command does not run.
 WITH_PARENT = ("setpriv", "--pdeathsig", "KILL", "--", "sh", "-c", 'test "$PPID" = "$0" && exec "$@"')
-# If true, Ctrl-C at the terminal does not reach the programs, because this process finishes its work first. The programs end with this process, even
-# if it is killed.
+# If true, Ctrl-C at the terminal does not reach the programs that this process runs, because it must finish its work first. If this process
+# ends or is killed, the programs are killed too.
 APART = contextvars.ContextVar("APART", default=False)
 
 
 def run_whole(words: Sequence[str], **more: object) -> subprocess.CompletedProcess:
-    """Runs a program to its end, and returns its output."""
+    """Runs a program until it ends, and returns its output."""
     before = (*WITH_PARENT, str(os.getpid())) if APART.get() else ()
     ran = subprocess.run([*before, *words], capture_output=True, start_new_session=APART.get(), **more)
     ran.args = words
@@ -23,6 +23,6 @@ def run_whole(words: Sequence[str], **more: object) -> subprocess.CompletedProce
 
 
 def ended_words(status: int) -> str:
-    """Describes how a process ended. Its status is negative if a signal ended it."""
+    """Describes how a process ended. A negative status is the number of the signal that ended it."""
     name = next((f" ({known.name})" for known in signal.Signals if known == -status), "")
     return f"it was killed by signal {-status}{name}" if status < 0 else f"it ended with status {status}"

@@ -95,7 +95,7 @@ class BadInput(InFolder):
             except Refused:
                 self.assertIn(stop, (1, 2))
                 continue
-            # The rules on disk are the old ones, or those of the new description.
+            # The rules on disk are either the old ones or those of the new description.
             wrong = list(faults_of_descriptions(plan, plan.folder.description))
             self.assertEqual((plan.rules["game"].text == game.read_bytes(), bool(wrong)), (stop > 0, stop == 0), written)
 
@@ -200,14 +200,14 @@ class BadInput(InFolder):
     @unittest.skipUnless(shutil.which("gringo"), "gringo is not installed")
     def test_what_instantiate_says_of_rules_is_told(self):
         (self.folder / "coins.kif").write_text("(role a) (init (s 101)) (<= (goal a ?x) (true (s ?x))) (goal a 7)")
-        # The first line is a comment of the author, and not of `ggp-instantiate`.
+        # The first line is a comment by the author, not by `ggp-instantiate`.
         (self.folder / "one.kif").write_text("; a comment\n" + (GAMES / "buttons.kif").read_text())
         self.write(PLAYERS, [("coins", "coins.kif", "aborts = true"), ("one", "one.kif")])
         status, out, said = run(self.folder, "plan")
         self.assertEqual((status, said, [line.split(":")[0] for line in out.splitlines()]), (0, "", ["coins", "coins", "one", "schedule.tsv"]))
         self.assertEqual(out.splitlines()[1], (
-            "coins: goals above 100 are left out (1, the first by sentence 2, line 1: (<= (goal a ?x) (true (s ?x)))): if one would hold at the end, the role gets the other goal that holds there; "
-            "if there is none, the match has no goals"
+            "coins: goals above 100 are left out (1, the first by sentence 2, line 1: (<= (goal a ?x) (true (s ?x)))): if a role would have such a goal value at the end, it gets its other goal value; "
+            "if it has no other, the match has no goal values"
         ))
 
     def test_an_instantiation_that_is_ended(self):
@@ -322,7 +322,7 @@ class BadInput(InFolder):
     def test_an_unwritable_folder(self):
         self.write(PLAYERS, [("tictactoe", GAMES / "tictactoe.kif")])
         self.folder.chmod(0o555)
-        # Without this capability, file permissions apply to root too.
+        # Without this capability, file permissions also apply to root.
         before = [] if os.geteuid() else ["setpriv", "--bounding-set=-dac_override"]
         words = [*before, sys.executable, COMMAND, "plan", "--program", program()]
         said = subprocess.run(words, cwd=self.folder, capture_output=True, text=True)

@@ -1,4 +1,5 @@
-"""A competition that grows: planned matches stay, new ones follow them, and the message about a refused change names the change."""
+"""A competition that grows: planned matches stay as they are, and new ones follow them. If a change is refused, the message names the
+change."""
 
 import contextlib
 import unittest
@@ -36,7 +37,7 @@ def seated(matches):
 
 class Growth(unittest.TestCase):
     def grown(self, *versions, again=()):
-        """Plans the first file, replaces it by each of the others in turn, and returns the schedule."""
+        """Plans the first file, and then replaces it with each of the others in turn. Returns the schedule."""
         history = History((), tuple(again))
         for before, after in zip(versions, versions[1:]):
             refuse_changes(before, after)
@@ -109,7 +110,7 @@ class Growth(unittest.TestCase):
     def test_the_limit_of_matches(self):
         orders = [Again("cup-005", "cup-001", "x"), Again("cup-006", "cup-002", "x")]
         more, same = (competition(3, 1, ("two",)), competition(4, 1, ("two",))), (competition(2),)
-        # The first nine matches that the second file alone would give do not include all matches of the first file.
+        # The first nine matches that follow from the second file do not include all matches of the first file.
         many = competition(3, 1, ("two",)), competition(6, 1, ("two",))
         cases = (12, more, [], False), (11, more, [], True), (6, same, orders, False), (5, same, orders, True), (8, many, [], True)
         for most, versions, again, is_past in cases:

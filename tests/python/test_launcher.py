@@ -14,7 +14,7 @@ from players import TestPlayer
 from support import GAMES, TOP, InFolder, command_of, program, program_but, run, script, start, wait_until
 
 HEAD = "start = 60\nplay = 60\nstrikes = 1\nwait = 0\ninfo = 10\ntries = 2\n"
-# The command with different times after which a job is lost, or after which its match has certainly ended.
+# The command with other time limits: after these times a job is lost, or its match has certainly ended.
 OTHER = f"import sys; sys.path.insert(0, {str(TOP / 'python')!r})\nfrom ggp_tools.competition import command, jobs, open_match\n%s\nsys.exit(command.main())"
 NODE = socket.gethostname()
 
@@ -143,7 +143,7 @@ class Launched(InFolder):
         self.assertEqual(list((self.folder / "open").iterdir()), [])
 
     def test_a_job_that_is_lost_with_its_node_is_begun_again(self):
-        # What the shell itself prints about the killed job goes to a file.
+        # The shell's own messages about the killed job go to a file.
         lost = (
             '[ -e $folder/lost ] && exec "$@"; touch $folder/lost; "$@" <&0 & job=$!; read line < $folder/cut;'
             ' { kill -9 $job; wait $job; } 2> $folder/killed; echo "srun: error: Node failure" >&2'

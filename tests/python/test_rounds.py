@@ -79,7 +79,7 @@ class ByRounds(unittest.TestCase):
         self.assertEqual((rounds_left(plan), plan_next_round(plan, {})), (2, []))
         results = self.play(plan)
         plan_next_round(plan, results)
-        # p0, p2 and p4 have two points; the bye has no opponent whose points would count.
+        # p0, p2 and p4 have two points. A bye has no opponent whose points would count.
         self.assertEqual(round_words(plan), "round 2 of 3: cup-005 to cup-008; bye: p3")
         self.assertEqual(self.pairs(plan)[1], ((("p0", "p2"), ("p4", "p1")), ("p3",)))
         self.assertEqual((self.read().matches, self.pairs(self.read())), (plan.matches, self.pairs(plan)))
@@ -103,10 +103,10 @@ class ByRounds(unittest.TestCase):
         self.write(6, 'kind = "knockout"')
         plan = self.make()
         self.assertEqual(self.pairs(plan), [((("p3", "p4"), ("p2", "p5")), ("p0", "p1"))])
-        # All draws: the better seed advances.
+        # If all matches are drawn, the better seed advances.
         plan_next_round(plan, self.play(plan, lambda _: [50, 50]))
         self.assertEqual(self.pairs(plan)[1], ((("p0", "p3"), ("p1", "p2")), ()))
-        # One win each: the goals decide.
+        # Each has one win, so the goals decide.
         plan_next_round(plan, self.play(plan, lambda match: [40, 0] if match.players[0] in ("p0", "p1") else [60, 0]))
         self.assertEqual(self.pairs(plan)[2], ((("p3", "p2"),), ()))
         results = self.play(plan, lambda match: [100, 0] if match.players[0] == "p2" else [0, 100])
@@ -147,7 +147,7 @@ class ByRounds(unittest.TestCase):
         self.read()
         first = self.folder.record("cup-001")
         before = first.read_text()
-        # Now p1 has won against p0, so the order changes.
+        # Now p1 has beaten p0, so the order changes.
         for number in (1, 3):
             self.folder.record(f"cup-00{number}").write_text(json.dumps(record(plan.matches[number - 1], [0, 100] if number == 1 else [100, 0])) + "\n")
         self.assert_refused("schedule.tsv does not agree with")
@@ -400,7 +400,8 @@ class Refusals(unittest.TestCase):
     def test_how_many_rounds_and_matches_are_to_come(self):
         players, games = [(f"p{at}", f"h:{at + 1}") for at in range(7)], [("one", "f"), ("two", "f")]
         first = [Round(1, (("p0", "p1"), ("p2", "p3"), ("p4", "p5")), ("p6",))]
-        # With 7 players and 2 games: 3 pairings of 4 matches in each of 4 further rounds; in a knockout 6 pairings in all.
+        # With 7 players and 2 games, there are 3 pairings of 4 matches in each of 4 further rounds. In a knockout, there are 6 pairings in
+        # all.
         for form, rounds, left in ((SWISS.format(5), 5, 48), ('kind = "knockout"', 3, 12), ('kind = "round_robin"', 0, None)):
             found = read_competition(toml(players, games, form).encode())
             self.assertEqual(rounds_of(found), rounds)

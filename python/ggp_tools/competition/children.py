@@ -1,4 +1,4 @@
-"""The processes that play and check matches, and send ABORT. They always end when this process ends."""
+"""Manages the processes that play and check matches, and sends ABORT. The processes always end when this process ends."""
 
 import asyncio
 import contextlib
@@ -16,10 +16,10 @@ from ggp_tools.processes import WITH_PARENT, ended_words
 from ggp_tools.referee import Referee
 
 MOST_AT_ONCE = 1 << 16
-# At most this many players are sent ABORT at the same time.
+# ABORT is sent to at most this many players at the same time.
 MOST_ABORTS = 1_024
-# After its time limit, a process that seems to be running has SOON more seconds to send output. If it has ended, its output may take LATE more
-# seconds to arrive.
+# A process may reach its time limit and still seem to be running. Then it has SOON more seconds to send output. If it has ended, its output
+# may take LATE more seconds to arrive.
 SOON, LATE = 0.1, 10
 
 
@@ -41,15 +41,15 @@ class Watched(asyncio.subprocess.SubprocessStreamProtocol):
 
 @contextlib.asynccontextmanager
 async def started(words: list[str], ends_itself: bool = False) -> AsyncIterator[tuple[asyncio.subprocess.Process, asyncio.Event]]:
-    """Starts a process, and yields it with an event that is set when it has ended. On exit, the started process and its group are killed. If this
-    process ends, the started process is killed too, unless `ends_itself` says that the started process then ends by itself. Ctrl-C at the terminal
-    does not reach the started process."""
+    """Starts a process, and yields it with an event that is set when it has ended. On exit, the started process and its group are killed.
+    If this process ends, the started process is killed too, except with `ends_itself`, which means that it then ends by itself. Ctrl-C at
+    the terminal does not reach the started process."""
     loop, before = asyncio.get_running_loop(), () if ends_itself else (*WITH_PARENT, str(os.getpid()))
     if not shutil.which(words[0]):
         raise FileNotFoundError(errno.ENOENT, os.strerror(errno.ENOENT), words[0])
     starting = asyncio.create_task(loop.subprocess_exec(Watched, *before, *words, start_new_session=True))
     try:
-        # Without the shield, a cancellation would kill only the started process, and not its children. Then asyncio would wait for these children.
+        # Without the shield, a cancellation would kill the started process but not its children, and asyncio would wait for these children.
         transport, watched = await asyncio.shield(starting)
         yield asyncio.subprocess.Process(transport, watched, loop), watched.ended
     finally:
@@ -63,7 +63,7 @@ async def started(words: list[str], ends_itself: bool = False) -> AsyncIterator[
 
 @dataclass
 class Done:
-    """A process that has ended, with its standard output and error. The status is None if the process ran out of time."""
+    """A process that has ended, with its standard output and its standard error. If the process ran out of time, the status is None."""
 
     status: int | None
     output: bytes
@@ -80,7 +80,7 @@ class Done:
 
 
 async def run(words: list[str], seconds: float | None = None) -> Done:
-    """Runs a process to its end. It is killed when its time is over, or if the caller is cancelled."""
+    """Runs a process until it ends. It is killed when its time is over, or if the caller is cancelled."""
     began = time.monotonic()
     async with started(words) as (process, _):
         # The empty input closes the pipe.
@@ -96,7 +96,7 @@ async def run(words: list[str], seconds: float | None = None) -> Done:
 
 
 async def is_answered(referee: Referee, match: str, place: str, slots: asyncio.Semaphore) -> bool:
-    """Sends ABORT to a player. Returns whether the player answered; if the command cannot be run, the player counts as silent."""
+    """Sends ABORT to a player. Returns whether the player answered. If the command cannot be run, the player counts as silent."""
     async with slots:
         try:
             return (await run(referee.abort_words(match, place))).status == 0
@@ -105,8 +105,8 @@ async def is_answered(referee: Referee, match: str, place: str, slots: asyncio.S
 
 
 async def send_aborts(referee: Referee, places: dict[str, list[str]], seconds: float | None = None) -> dict[str, list[str]]:
-    """Sends ABORT for matches that no referee plays any more, to many players at the same time. `places` has the addresses of the players by match
-    id. Returns the players that did not answer within `seconds` (10 if None), also by match id."""
+    """Sends ABORT, to many players at the same time, for matches that no referee plays any more. `places` has the addresses of the players
+    by match id. Returns the players that did not answer within `seconds` (10 if None), also by match id."""
     slots = asyncio.Semaphore(MOST_ABORTS)
     sent = {(match, place): asyncio.create_task(is_answered(referee, match, place, slots)) for match in places for place in places[match]}
     if sent:

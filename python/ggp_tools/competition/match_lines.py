@@ -15,7 +15,8 @@ from ggp_tools.records.record import record_sum
 
 
 def line_of(plan: Plan, result: Result, description: str | None, known: Mapping[str, bytes]) -> tuple[str, bytes]:
-    """Returns the line of a match in matches.jsonl, after the checksum of everything that determines the line. A known line is not made again."""
+    """Returns the line of a match in matches.jsonl, preceded by the checksum of everything that determines the line. If the line is already
+    known, it is not made again."""
     match = result.match
     data, log = plan.read_record(match), plan.folder.whole_log(match.id)
     sums = {"record": record_sum(data), "rules": plan.rules[match.game].sum, "description": description}
@@ -30,7 +31,7 @@ def matches_text(plan: Plan, results: Sequence[Result], known: Known | None = No
     path = plan.folder.description_sums
     descriptions, before = sums_of(path) if path.is_file() else {}, known.facts("lines") | known.used.get("lines", {}) if known else {}
     calls = [(plan, result, descriptions.get(f"{result.match.game}.kif"), before) for result in results]
-    # If most lines are known, using other processes would not save time.
+    # If most lines are known, other processes would not save time.
     lines = list(itertools.starmap(line_of, calls) if 2 * len(before) > len(calls) else made_side_by_side(line_of, calls))
     for key, line in lines if known else ():
         known.put("lines", key, line)
