@@ -117,7 +117,7 @@ def test_a_job_that_runs_gets_a_byte_now_and_then_and_its_task(monkeypatch):
 
     async def go():
         job = await begun(script)
-        assert await job.came_up()
+        assert await job.reports(job.runs)
         job.begin({"words": ["one", "two words"]})
         await job.running
         return job
@@ -151,7 +151,7 @@ def test_a_job_that_is_ended_is_ended_with_what_it_has_started(hears):
         job.has_begun, job.end_seconds = True, 600 if hears else 0.2
         script = f"sleep 600 & echo ggp_competition: node $! >&2; {'cat; kill $!' if hears else 'wait'}"
         job.start(["bash", "-c", script])
-        assert await job.came_up()
+        assert await job.reports(job.runs)
         await job.end()
         return job
 

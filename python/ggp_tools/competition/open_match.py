@@ -189,7 +189,7 @@ class OpenMatch:
                 return None
             if not job.why and job.status is not None:
                 return self.outcome_of(done)
-            why = job.why or done.message()
+            why = ": ".join([job.why, *message_lines(done.errors)[-1:]]) if job.why else done.message()
             self.add_event(Other("lost", {"match": self.match.id, "time": int(time.time() * 1_000), "reason": why}))
             self.reporter.line(f"lost {self.match.id} on {job.node or 'no node'}: {why}")
             if job.has_begun:
@@ -212,7 +212,7 @@ class MatchJob(Job):
     """A job that plays a match on a node. The job may not send more than a referee can write about the match."""
 
     def __init__(self, open_match: OpenMatch) -> None:
-        super().__init__(self.take_output, self.take_lines)
+        super().__init__(self.take_output, self.take_lines, open_match.playing.launcher.queue_seconds)
         self.match = open_match
         record, roles = longest_record(open_match.plan.rules[open_match.match.game].text), len(open_match.match.players)
         # Each player is sent all moves, and a byte of an answer may take six bytes in the log.
@@ -247,7 +247,7 @@ class MatchJob(Job):
         match, began = self.match, time.monotonic()
         self.start([word.replace("{match}", match.match.id) for word in match.playing.launcher.command])
         try:
-            if await self.came_up():
+            if await self.reports(self.runs):
                 if not await match.can_be_played():
                     return None
                 match.add_event(Host(match.match.id, self.node))

@@ -133,6 +133,10 @@ class Playing:
         if (fault := self.reporter.journal.fault) and not self.is_full:
             self.is_full = True
             self.reporter.line(f"{fault.filename} can't be written: {fault.strerror}; no more matches begin")
+        # A match whose players are being asked can't begin any more, and a launcher may take long to run it.
+        for open_match, task in self.open.items() if not self.may_begin() else ():
+            if open_match.stage == ASKING and not task.cancelling():
+                task.cancel()
         return bool(self.open or self.waiting and self.may_begin())
 
     async def wait_for_news(self) -> None:
