@@ -13,6 +13,7 @@ import time
 from collections import Counter, deque
 from collections.abc import Callable, Container, Iterable, Mapping
 
+from ggp_tools.competition.checking import Checking
 from ggp_tools.competition.children import send_aborts
 from ggp_tools.competition.competition_file import is_place
 from ggp_tools.competition.files import ASKING, PLAYERS, PLAYING, Refused, allow_files, file_bytes
@@ -23,7 +24,7 @@ from ggp_tools.competition.schedule import Match
 from ggp_tools.competition.slots import Slots
 from ggp_tools.competition.started_players import StartedPlayers
 from ggp_tools.printable import counted
-from ggp_tools.processes import APART
+from ggp_tools.processes import apart
 from ggp_tools.referee import Referee
 from ggp_tools.reporting import NOT_BEGUN, REDRAWN, Reporter
 
@@ -46,7 +47,7 @@ class Playing:
         self.at_once = self.launcher.slots if self.launcher else at_once
         # `news` is set after an interrupt, and when further matches may be able to begin. `ends` is set when there is another result.
         self.news, self.ends = asyncio.Event(), asyncio.Event()
-        self.players = StartedPlayers(plan.folder, plan.competition, referee, reporter)
+        self.players, self.checking = StartedPlayers(plan.folder, plan.competition, referee, reporter), Checking(plan, referee)
         # By match id: the results, and the reasons why matches have none. By game: why no more of its matches begin.
         self.results, self.left, self.stopped = {}, {}, {}
         # By game: how many seconds the finished matches took, from their INFO.
@@ -212,7 +213,6 @@ class Playing:
                 asyncio.get_running_loop().add_signal_handler(number, self.interrupt, count)
         may_pair = not self.plan.competition.pause or not self.waiting
         try:
-            APART.set(True)
             await self.go()
             while may_pair and self.may_begin() and not self.reporter.fault and (matches := plan_next_round(self.plan, self.results)):
                 may_pair = not self.plan.competition.pause
@@ -276,7 +276,8 @@ def abort_open_matches(playing: Playing, directories: dict[pathlib.Path, list[st
         else:
             left[directory.name] = others
     if left:
-        asyncio.run(playing.abort(left))
+        with apart(playing.plan.folder.mark()):
+            asyncio.run(playing.abort(left))
 
 
 def set_all_aside(playing: Playing, faults: dict[str, str]) -> None:
@@ -328,7 +329,8 @@ def play(playing: Playing) -> dict[str, str]:
         # The default is a thread for each process.
         asyncio.set_child_watcher(asyncio.PidfdChildWatcher())
     prepare(playing)
-    asyncio.run(playing.play_rounds())
+    with apart(playing.plan.folder.mark()):
+        asyncio.run(playing.play_rounds())
     matches = [match for match in playing.plan.matches if not match.withdrawn]
     missing = {match.id: match.again and f"its record does not count, and {match.again} still replaces it" for match in matches}
     return {match: playing.left.get(match) or why or NOT_BEGUN for match, why in missing.items() if match not in playing.results}
