@@ -137,6 +137,7 @@ class Playing:
         # A match whose players are being asked can't begin any more, and a launcher may take long to run it.
         for open_match, task in self.open.items() if not self.may_begin() else ():
             if open_match.stage == ASKING and not task.cancelling():
+                self.waiting.append(open_match.match)
                 task.cancel()
         return bool(self.open or self.waiting and self.may_begin())
 
