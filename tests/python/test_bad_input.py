@@ -176,6 +176,18 @@ class BadInput(InFolder):
         schedule.write_text(schedule.read_text().replace("ann bob", "bob ann"))
         self.assert_refused("schedule.tsv does not agree with competition.toml", "table")
 
+    def test_a_schedule_that_is_too_long_is_refused_at_its_first_row_too_many(self):
+        self.plan([("ann", "h:1"), ("bob", "h:2")], [("countdown", GAMES / "countdown.kif")])
+        schedule = self.folder / "schedule.tsv"
+        rows = schedule.read_bytes()
+        for more, number in ((b"x\n" * 200_000, 100_002), (b"x" * 200_000, rows.count(b"\n") + 1)):
+            schedule.write_bytes(rows + more)
+            words = "expected at most 100,000 matches, each in a row of less than 131,072 bytes\n"
+            self.assert_refused(f"schedule.tsv:{number}: {words}", "table")
+        # A row that is too long is not read to its end.
+        os.truncate(schedule, 1 << 40)
+        self.assert_refused(words, "table")
+
     def test_the_mistakes_of_all_descriptions_are_reported_together(self):
         for number, (text, _) in enumerate(DESCRIPTIONS):
             (self.folder / f"{number}.kif").write_text(text)
