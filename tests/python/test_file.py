@@ -4,7 +4,7 @@ import random
 import unittest
 
 from ggp_tools.competition.command import MOST_AT_ONCE
-from ggp_tools.competition.competition_file import Command, Launcher, MOST_GAMES, MOST_OF_COMPETITION, MOST_PLAYERS, MOST_ROUNDS, MOST_SECONDS, MOST_STRIKES, Mistaken, mistake_lines, read_competition
+from ggp_tools.competition.competition_file import Command, Launcher, MOST_GAMES, MOST_OF_COMPETITION, MOST_PLAYERS, MOST_ROUNDS, MOST_SECONDS, MOST_STRIKES, Mistake, Mistaken, mistake_lines, read_competition
 from ggp_tools.competition.history import MOST_EARLIER, MOST_OF_EARLIER
 from ggp_tools.competition.schedule import MOST_MATCHES
 from ggp_tools.competition.toml_lines import MOST_SIGNS
@@ -215,8 +215,10 @@ class CompetitionFile(unittest.TestCase):
         texts = [f'name = "{long}"', f'name = "cup"\n{long} = 1', "".join(f"{at}x = 1\n" for at in range(1_000)), f"anchor = {{{long} = 1}}", f'[form]\nkind = "schedule"\nlines = ["{long} {long} {long}"]']
         texts += [f'[[games]]\nname = "{long}"\n' * 2, f'start = {"9" * 4_000}', f'[[players]]\nname = "a"\ncommand = ["{{port}}"]\nenvironment = {{"{long}=" = 1}}']
         for text in texts:
-            lines = mistake_lines("cup.toml", raised(Mistaken, read_competition, text.encode()).mistakes).splitlines()
-            self.assertLess((len(lines), max(map(len, lines))), (102, 1_000))
+            self.assertLess(max(map(len, mistake_lines("cup.toml", raised(Mistaken, read_competition, text.encode()).mistakes).splitlines())), 1_000)
+        for count, last in ((100, "f:100: key: why"), (101, "f: 1 more mistake"), (102, "f: 2 more mistakes")):
+            lines = mistake_lines("f", [Mistake(line, "key", "why") for line in range(1, count + 1)]).splitlines()
+            self.assertEqual((len(lines), lines[99], lines[-1]), (min(count, 101), "f:100: key: why", last))
 
     def test_whatever_comes_is_read_or_told(self):
         chance = random.Random(1)

@@ -16,7 +16,8 @@ from ggp_tools.competition.match_files import Check, unverified_result
 from ggp_tools.competition.pages import Site
 from ggp_tools.competition.plan import grows, make_plan, order_again, plan_next_round, read_plan, refuse_lost_results, round_words, rounds_left, sums_text
 from ggp_tools.competition.round_pages import count_of_all, round_text, rounds_part, rounds_words
-from ggp_tools.competition.rounds import Round, bracket, matches_to_come, paired, rounds_of
+from ggp_tools.competition.results import result_of
+from ggp_tools.competition.rounds import Round, bracket, matches_to_come, paired, rounds_of, scores_of
 from ggp_tools.competition.schedule import Match
 from ggp_tools.competition.table import tables_of
 from ggp_tools.competition.table_text import notes, standings_rows, table_files
@@ -406,6 +407,18 @@ class Refusals(unittest.TestCase):
             self.assertEqual(rounds_of(found), rounds)
             if left is not None:
                 self.assertEqual(matches_to_come(found, first), left)
+
+    def test_matches_that_a_player_has_left_out_count_as_byes_of_its_opponents(self):
+        rounds = [Round(1, (("p0", "p3"), ("p1", "p2")), ())]
+        record = {"goalValues": [100, 0], "moves": [[]], "errors": [["", ""]], "strikes": 0, "phase": "finished", "cause": None}
+        results = [result_of(record, Match("cup-1", "one", 1, 1, pair, 1)) for pair in rounds[0].pairs]
+        # One match of each pair is over. p3 has withdrawn, so only the other match of p0 is a bye, or both are if the first one is void.
+        for kind, points, byes, opponents in (("keep", [2, 1, 0, 0], [0] * 4, ["p3", "p2", "p1", "p0"]), ("void", [2, 1, 0, 0], [1, 0, 0, 0], ["", "p2", "p1", ""])):
+            players = [(f"p{at}", f"h:{at + 1}", *["withdrawn = true"] * (at == 3)) for at in range(4)]
+            found = read_competition(toml(players, [("one", "f")], SWISS.format(2), f'withdrawn_results = "{kind}"').encode())
+            scores = scores_of(found, rounds, results)
+            self.assertEqual([[of[f"p{at}"] for at in range(4)] for of in (scores.points, scores.byes)], [points, byes], kind)
+            self.assertEqual(["".join(scores.opponents[f"p{at}"]) for at in range(4)], opponents, kind)
 
     def test_sums_of_what_was_planned_stay(self):
         first, other = "0" * 64, "1" * 64
