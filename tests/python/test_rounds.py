@@ -6,6 +6,7 @@ import pathlib
 import tempfile
 import unittest
 from collections import Counter
+from dataclasses import replace
 from unittest import mock
 
 from ggp_tools.competition.competition_file import read_competition
@@ -58,11 +59,11 @@ class ByRounds(unittest.TestCase):
     def read(self):
         return read_plan(self.folder.path, REFEREE)
 
-    def play(self, plan, goals_of=lambda match: [100, 0] if match.players < match.players[::-1] else [0, 100]):
-        """Writes records of all matches that have none. The player with the lower number wins by default."""
+    def play(self, plan, goals_of=lambda match: [100, 0] if match.players < match.players[::-1] else [0, 100], errors_of=lambda _: ["", ""]):
+        """Writes records of all matches that have none, with these errors in the only turn. The player with the lower number wins by default."""
         for match in plan.matches:
             if not self.folder.record(match.id).exists() and match.counts():
-                self.folder.record(match.id).write_text(json.dumps(record(match, goals_of(match))) + "\n")
+                self.folder.record(match.id).write_text(json.dumps(record(match, goals_of(match), errors=[errors_of(match)])) + "\n")
                 self.folder.account(match.id).write_text(f"0\topen {match.id} 0 1 1\topened\n")
         return {match.id: found for match in plan.matches if (found := unverified_result(self.folder, plan.competition, plan.rules, match))}
 
@@ -116,6 +117,22 @@ class ByRounds(unittest.TestCase):
         heads, *rows = standings_rows(table)
         self.assertEqual(heads[3], "rounds won")
         self.assertEqual([(row[0], row[1], row[3]) for row in rows], [("1", "p2", "3"), ("2", "p3", "2"), ("3", "p0", "1"), ("3", "p1", "1"), ("5", "p4", "0"), ("5", "p5", "0")])
+
+    def test_a_final_from_the_rounds_before_it_to_its_table(self):
+        self.write(5, f"{SWISS.format(2)}\nfinal = 4")
+        plan = self.make()
+        for _ in range(2):
+            results = self.play(plan, lambda match: [0, 100] if match.players < match.players[::-1] else [100, 0])
+            _ = plan_next_round(plan, results) if len(plan.rounds) == 1 else None
+        # By hand: p3 and p4 have 4 points, p1 and p2 have 2, p0 has none. p3 has met p1 and p2. p4 withdraws, so p0 takes its place.
+        plan = self.withdraw(4)
+        plan_next_round(plan, results)
+        self.assertEqual((self.pairs(plan)[2], rounds_left(plan)), (((("p3", "p0"), ("p1", "p2")), ()), 1))
+        plan_next_round(plan, self.play(plan))
+        self.assertEqual(self.pairs(plan)[3], ((("p0", "p1"),), ()))
+        results = self.play(plan)
+        found = [(line.player, line.rounds_won, line.points(), line.buchholz) for line in tables_of(plan.competition, list(results.values()), plan.rounds)[0].standings()]
+        self.assertEqual(found, [("p0", 2, 0, 6), ("p1", 1, 2, 4), ("p3", 0, 4, 4), ("p2", 0, 2, 4), ("p4", None, 4, 0)])
 
     def test_what_the_pages_say_of_rounds(self):
         for form, wanted in (('kind = "knockout"', ["0 of 6 ", "Round 1 of 2; 2 matches"]), (SWISS.format(3), ["0 of 12 ", "Round 1 of 3; 8 matches"])):
@@ -234,6 +251,25 @@ class ByRounds(unittest.TestCase):
         results = self.play(plan)
         table = tables_of(plan.competition, list(results.values()), plan.rounds)[0]
         self.assertEqual([(line.player, line.rounds_won) for line in table.standings()], [("p0", 2), ("p1", 1), ("p2", 0), ("p3", 0)])
+
+    def test_a_player_that_is_absent_in_whole_rounds_is_withdrawn(self):
+        for most, rounds, results, words in (
+            # p3 wins against p2, but these matches are void, so p1 is the last of the other players.
+            (1, (2,), "void", "round 2 of 5: cup-005 to cup-006; bye: p1; withdrawn: p3 (absent in 1 whole round)"),
+            # In round 2, p3 is absent in only one of its two matches.
+            (2, (2, 1, 2), "keep", "round 4 of 5: cup-013 to cup-014; bye: p2; withdrawn: p3 (absent in 2 whole rounds)"),
+        ):
+            self.setUp()
+            self.write(4, SWISS.format(5), f'absent_rounds = {most}\nwithdrawn_results = "{results}"')
+            plan = self.make()
+            for count in rounds:
+                self.assertFalse(plan.rounds[-1].absent)
+                plan_next_round(plan, self.play(
+                    plan, lambda match: [100, 0] if "p3" in match.players[0] else [0, 100], lambda match: ["TO" * (match.players[at] == "p3" and at >= 2 - count) for at in (0, 1)],
+                ))
+            self.assertEqual((round_words(plan), self.read().rounds), (words, plan.rounds))
+            plan_next_round(plan, self.play(plan))
+            self.assertEqual((len(plan.rounds), plan.rounds[-1].absent), (len(rounds) + 2, ()))
 
     def test_a_last_round_without_an_opponent_is_a_bye(self):
         for form, rounds in (('kind = "knockout"', 2), (SWISS.format(3), 3)):
@@ -400,13 +436,16 @@ class Refusals(unittest.TestCase):
 
     def test_how_many_rounds_and_matches_are_to_come(self):
         players, games = [(f"p{at}", f"h:{at + 1}") for at in range(7)], [("one", "f"), ("two", "f")]
-        first = [Round(1, (("p0", "p1"), ("p2", "p3"), ("p4", "p5")), ("p6",))]
+        first = Round(1, (("p0", "p1"), ("p2", "p3"), ("p4", "p5")), ("p6",))
+        absent, final = replace(first, absent=(("p5", "x"), ("p6", "x"))), f"{SWISS}\nfinal = {{}}"
         # With 7 players and 2 games: 3 pairings of 4 matches in each of 4 further rounds; in a knockout 6 pairings in all.
-        for form, rounds, left in ((SWISS.format(5), 5, 48), ('kind = "knockout"', 3, 12), ('kind = "round_robin"', 0, None)):
-            found = read_competition(toml(players, games, form).encode())
-            self.assertEqual(rounds_of(found), rounds)
-            if left is not None:
-                self.assertEqual(matches_to_come(found, first), left)
+        for form, found, rounds, left in (
+            (SWISS.format(5), [first], 5, 48), (SWISS.format(5), [absent], 5, 32), (final.format(5, 4), [first], 7, 60), (final.format(1, 2), [first], 2, 4),
+            (final.format(1, 4), [first, Round(2, first.pairs[:2], ())], 3, 4), ('kind = "knockout"', [first], 3, 12), ('kind = "round_robin"', [], 0, None),
+        ):
+            competition = read_competition(toml(players, games, form).encode())
+            self.assertEqual(rounds_of(competition), rounds, form)
+            self.assertEqual(left and matches_to_come(competition, found), left, form)
 
     def test_matches_that_a_player_has_left_out_count_as_byes_of_its_opponents(self):
         rounds = [Round(1, (("p0", "p3"), ("p1", "p2")), ())]
