@@ -32,7 +32,7 @@ MISTAKES = [
     ("strikes = 3", 'order = "wins"', [(3, "order", "expected one of goals, points, found 'wins'")]),
     ("strikes = 3", 'absent = "wait"', [(3, "absent", "expected one of leave, play, found 'wait'")]),
     ("strikes = 3", "pause = true", [(3, "pause", "only the kinds swiss and knockout have this key")]),
-    ("strikes = 3", "anchor = {ann = 1.5, eve = 1_500}", [(3, "anchor", "expected for ann a whole number from -10,000 to 10,000, found 1.5"), (3, "anchor", "no player 'eve'")]),
+    ("strikes = 3", "anchor = {ann = 1.5, bob = true, eve = 1_500}", [(3, "anchor", "expected for ann a whole number from -10,000 to 10,000, found 1.5"), (3, "anchor", "for bob"), (3, "anchor", "no player 'eve'")]),
     ("strikes = 3", "seeds = 7", [(3, "seeds", "a text in quotes")]),
     ('"round_robin"\nrounds = 2', '"swiss"\nrounds = 2\nfinal = 4', [(8, "form.final", "the competition has 3 players")]),
     ('"round_robin"\nrounds = 2', '"swiss"\nrounds = 2\nfinal = 1', [(8, "form.final", "from 2 to 1,000, found 1")]),
@@ -86,7 +86,7 @@ MISTAKES = [
         ('command = []', 19, "command", "expected at least one text"), ('command = [""]', 19, "command", "expected at least one text"),
         ('command = ["x"]', 19, "command", "expected {port} in the command or in the environment"), ('command = ["x", 5, "{port}"]', 19, "command", "a text in quotes"),
         *((f'command = ["x", "{{port}}"]\n{more}', 20, more.split()[0], words) for more, words in (
-            ('memory = "4X"', "found '4X'"), ('memory = 5', "a text in quotes"), ('restart = "always"', "one of when_dead, each_match, never"),
+            ('memory = "4X"', "found '4X'"), ('memory = "1000000K"', "found '1000000K'"), ('memory = 5', "a text in quotes"), ('restart = "always"', "one of when_dead, each_match, never"),
             ("environment = 5", "a table of texts"), ('environment = {"A=" = "x"}', "expected a variable"), ("environment = {A = 5}", "expected a variable"),
             ('directory = ""', "expected the path of a file"),
         )),
@@ -131,6 +131,7 @@ class CompetitionFile(unittest.TestCase):
     def assert_told(self, text, wanted):
         found = mistakes_of(text.encode())
         self.assertEqual(sorted(mistake[:2] for mistake in found), sorted(mistake[:2] for mistake in wanted), found)
+        self.assertEqual(found, sorted(found, key=lambda mistake: mistake[0]))
         for *place, words in wanted:
             self.assertTrue(any(list(mistake[:2]) == place and words in mistake[2] for mistake in found), (words, found))
 

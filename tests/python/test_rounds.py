@@ -154,6 +154,10 @@ class ByRounds(unittest.TestCase):
         self.assertEqual((count_of_all(plan), rounds_words(plan)), (10, " Round 3 of 3."))
 
     def test_a_schedule_that_does_not_follow_from_the_records(self):
+        self.write(2, 'kind = "round_robin"')
+        self.make()
+        self.folder.schedule.write_text(self.folder.schedule.read_text() + "cup-003\tgame\t10\t10\tp0 p1\n")
+        self.assert_refused("schedule.tsv does not agree with")
         self.write(4, SWISS.format(3))
         plan = self.make()
         plan_next_round(plan, self.play(plan))
@@ -264,12 +268,18 @@ class ByRounds(unittest.TestCase):
             plan = self.make()
             for count in rounds:
                 self.assertFalse(plan.rounds[-1].absent)
-                plan_next_round(plan, self.play(
+                found = self.play(
                     plan, lambda match: [100, 0] if "p3" in match.players[0] else [0, 100], lambda match: ["TO" * (match.players[at] == "p3" and at >= 2 - count) for at in (0, 1)],
-                ))
+                )
+                self.assertEqual(self.read().rounds, plan.rounds)
+                plan_next_round(plan, found)
             self.assertEqual((round_words(plan), self.read().rounds), (words, plan.rounds))
             plan_next_round(plan, self.play(plan))
             self.assertEqual((len(plan.rounds), plan.rounds[-1].absent), (len(rounds) + 2, ()))
+        self.setUp()
+        self.write(2, SWISS.format(3), "absent_rounds = 1")
+        self.play(self.make(), errors_of=lambda match: ["TO" * (player == "p1") for player in match.players])
+        self.assertEqual(self.pairs(self.read())[1:], [((), ("p0",))] * 2)
 
     def test_a_last_round_without_an_opponent_is_a_bye(self):
         for form, rounds in (('kind = "knockout"', 2), (SWISS.format(3), 3)):
@@ -366,7 +376,10 @@ class ByRounds(unittest.TestCase):
             self.assertEqual([match.id for match in plan_next_round(plan, results)], ["cup-006", "cup-007", "cup-008", "cup-009"])
             refuse_lost_results(plan, results)
             self.assertEqual(self.read().matches, plan.matches)
-            self.assert_refused("cup-002 can't be played again: it is in round 1, and the next round was paired by the results of that round", lambda: order_again(self.folder.path, REFEREE, "cup-002", "x"))
+            late = "cup-002 can't be played again: it is in round 1, and the next round was paired by the results of that round"
+            self.assert_refused(late, lambda: order_again(self.folder.path, REFEREE, "cup-002", "x"))
+            self.folder.again.write_bytes(self.folder.again.read_bytes() + again_text((Again("cup-010", "cup-002", "x"),)).splitlines(True)[1])
+            self.assert_refused(late)
 
     def test_ids_that_nobody_guesses(self):
         self.write(4, SWISS.format(2), 'ids = "random"')
@@ -427,6 +440,8 @@ class Refusals(unittest.TestCase):
             ("abcdef", "ac cd ce cf ef", "ae fd bc"),
             # g and h swap with c and d. Then e and f could swap with the next pair below, but they swap with a pair far above.
             ("abcdefgh", "ce ef eg eh gh", "ae cg bf dh"),
+            # b and d come down, so e and f could swap with two pairs below. They swap with the nearer one.
+            ("abcdefghij", "ae ce cg ef eg eh ei ej gh gi gj ij", "ag ci hf be dj"),
         ):
             found = paired(order, Counter(map(frozenset, met.split())))
             self.assertEqual(" ".join(map("".join, found)), wanted)
