@@ -59,6 +59,7 @@ MISTAKES = [
     ('name = "go"', 'name = "-go"', [(12, "games.name", "expected a name")]),
     ('name = "go"', 'name = "g/o"', [(12, "games.name", "expected a name")]),
     ('file = "go.kif"', "", [(11, "games.file", "missing")]),
+    *(('file = "go.kif"', f'file = "go{sign}"', [(13, "games.file", "expected the path of a file")]) for sign in ("\\u0000", "\\u001f", "\\u007f", "\\u009f")),
     ('file = "go.kif"', 'file = "go.kif"\nplayer_rules = "both"', [(14, "games.player_rules", "one of ground, variables")]),
     ('file = "go.kif"', 'file = "go.kif"\naborts = 1', [(14, "games.aborts", "expected true or false, found 1")]),
     ('file = "go.kif"', 'file = "go.kif"\ntold = "variables"', [(14, "games.told", "this key is now player_rules")]),
@@ -84,10 +85,11 @@ MISTAKES = [
     ('address = "[::1]:9148"', 'address = "[::1]:9148"\ncommand = ["x", "{port}"]', [(19, "players.address", "gets its address when it is started"), (17, "players.command", "the matches of a launcher can't reach")]),
     *(('address = "[::1]:9148"', new, [(line, f"players.{key}", words), (17, "players.command", "launcher")]) for new, line, key, words in (
         ('command = []', 19, "command", "expected at least one text"), ('command = [""]', 19, "command", "expected at least one text"),
-        ('command = ["x"]', 19, "command", "expected {port} in the command or in the environment"), ('command = ["x", 5, "{port}"]', 19, "command", "a text in quotes"),
+        ('command = ["\\u0000", "{port}"]', 19, "command", "expected at least one text"), ('command = ["x"]', 19, "command", "expected {port} in the command or in the environment"), ('command = ["x", 5, "{port}"]', 19, "command", "a text in quotes"),
         *((f'command = ["x", "{{port}}"]\n{more}', 20, more.split()[0], words) for more, words in (
             ('memory = "4X"', "found '4X'"), ('memory = "1000000K"', "found '1000000K'"), ('memory = 5', "a text in quotes"), ('restart = "always"', "one of when_dead, each_match, never"),
             ("environment = 5", "a table of texts"), ('environment = {"A=" = "x"}', "expected a variable"), ("environment = {A = 5}", "expected a variable"),
+            *((f"environment = {{{entry}}}", "expected a variable") for entry in ('"" = "x"', '"A\\u0000" = "x"', 'A = "\\u0000"')),
             ('directory = ""', "expected the path of a file"),
         )),
     )),
