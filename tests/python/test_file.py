@@ -39,7 +39,7 @@ MISTAKES = [
     ("rounds = 2", "final = 2", [(7, "form.final", "the kind round_robin has no such key")]),
     ("strikes = 3", "absent_rounds = 1", [(3, "absent_rounds", "only the kinds swiss and knockout have this key")]),
     ("strikes = 3", 'withdrawn_results = "drop"', [(3, "withdrawn_results", "one of keep, void")]),
-    ("concurrent = 3", 'withdrawn = " a reason"', [(23, "players.withdrawn", "expected true or a reason")]),
+    *(("concurrent = 3", f'withdrawn = "{why}"', [(23, "players.withdrawn", "expected true or a reason")]) for why in (" a reason", "x" * 201)),
     ("strikes = 3", "faults = {replace = 1}", [(3, "faults.replace", "no such key; expected one of replaced"), (3, "faults.replaced", "missing")]),
     ('["srun", "-N1"]', "[]", [(4, "launcher.command", "expected at least one text")]),
     ('["srun", "-N1"]', '["srun", 1]', [(4, "launcher.command", "a text in quotes")]),

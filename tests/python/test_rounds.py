@@ -381,11 +381,19 @@ class ByRounds(unittest.TestCase):
             self.folder.again.write_bytes(self.folder.again.read_bytes() + again_text((Again("cup-010", "cup-002", "x"),)).splitlines(True)[1])
             self.assert_refused(late)
 
+    def test_the_schedule_is_written_last(self):
+        self.write(2, SWISS.format(2), 'ids = "random"')
+        with mock.patch("ggp_tools.competition.plan.write_whole") as written:
+            self.make()
+        # An interrupted `plan` leaves no checksums without the rules, and no schedule without any of the others.
+        self.assertEqual([call.args[0].name for call in written.call_args_list], ["ids.key", "game.kif", "DESCRIPTIONS.sha256", "SHA256SUMS", "planned.toml", "schedule.tsv"])
+
     def test_ids_that_nobody_guesses(self):
         self.write(4, SWISS.format(2), 'ids = "random"')
         plan = self.make()
         ids, key = [match.id for match in plan.matches], self.folder.key.read_bytes()
         self.assertEqual((len(set(ids)), [found[:8] for found in ids]), (4, [f"cup-00{at}-" for at in range(1, 5)]))
+        self.assertEqual(self.folder.key.stat().st_mode & 0o77, 0)
         for found in ids:
             self.assertRegex(found, r"\Acup-00\d-[a-z2-7]{12}\Z")
         # With the same key, the ids stay the same if the schedule is lost, if it grows, or if a match is played again.
