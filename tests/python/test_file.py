@@ -68,7 +68,7 @@ MISTAKES = [
     ('file = "go.kif"', 'file = "go.kif"\nplayer_rules = true', [(14, "games.player_rules", "a text in quotes")]),
     ('file = "go.kif"', 'file = "go.kif"\n\ntell = "ground"', [(15, "games.tell", "no such key; expected one of name, file, described, instantiate, start, play, player_rules, aborts, large")]),
     ('name = "bob"', 'name = "ann"', [(18, "players.name", "line 15 already has 'ann'")]),
-    ('name = "bob"', 'name = "b b"', [(18, "players.name", "expected a name")]),
+    *(('name = "bob"', f'name = "{name}"', [(18, "players.name", "expected a name of 1 to 64 letters")]) for name in ("b b", "b" * 65)),
     ('"[::1]:9148"', '"10.0.0.1:9147"', [(19, "players.address", "line 16 already has")]),
     ('"[::1]:9148"', '"10.0.0.1"', [(19, "players.address", "expected HOST:PORT")]),
     ('"[::1]:9148"', '"::1:9148"', [(19, "players.address", "expected HOST:PORT")]),
