@@ -74,7 +74,7 @@ class Made(unittest.TestCase):
         self.path = self.room / "cup.tar.gz"
 
     def end(self, match, goals):
-        """Writes the files of a match. The call log has the calls that follow from the match's log."""
+        """Writes the files of a match. The calls in the call log are those that follow from the match's log."""
         folder = self.plan.folder
         folder.record(match.id).write_text(json.dumps(record_of(match, [["(take 2)", "noop"], ["noop", "(take 1)"]], [["", ""], ["", ""]], goals)) + "\n")
         calls = "".join(f"{at + 1}\tnext {match.id} {at}\towe 0 start\n{at + 1}\tsubmit {match.id} {at} 0 ready\ttaken\n" for at in (0, 1))
@@ -309,7 +309,7 @@ class Rounds(Made):
 
 
 class Held(Made):
-    """Matches of games with variables are checked with the descriptions."""
+    """Matches of games with variables are compared with the descriptions."""
 
     def held(self, *words):
         games = [types.SimpleNamespace(name=name) for name in ("heap", "other", "third")]
@@ -326,7 +326,7 @@ class Held(Made):
     def test_what_is_said_of_them(self):
         same = "the same: 2 turns"
         self.assertEqual(self.held(same, same, same), ("; 3 matches agree with descriptions that have variables", []))
-        self.assertEqual(self.held(same, "differs: x", same), ("; 2 matches agree with descriptions that have variables", ["cup-002: compared with games/heap.kif it differs: x"]))
+        self.assertEqual(self.held(same, "differs: x", same), ("; 2 matches agree with descriptions that have variables", ["cup-002: compared with games/heap.kif, it differs: x"]))
         said = "; 1 match agrees with descriptions that have variables, and 2 could not be followed: cup-001 not followed: a, cup-003 not followed: b"
         self.assertEqual(self.held("not followed: a", same, "not followed: b"), (said, []))
         said = "; 0 matches agree with descriptions that have variables, and 3 could not be followed: cup-001 not followed: a, cup-002 not followed: a, cup-003 not followed: a"
@@ -336,7 +336,7 @@ class Held(Made):
     def test_a_match_that_differs_is_a_fault_of_the_archive(self):
         self.publish()
         with mock.patch.object(archive, "has_variables", lambda _: True), mock.patch.object(archive, "comparisons", lambda _, records: ["differs: y" for _ in records]):
-            self.assertEqual(self.check(), ([f"cup-00{at}: compared with games/heap.kif it differs: y" for at in (1, 2, 3)], ""))
+            self.assertEqual(self.check(), ([f"cup-00{at}: compared with games/heap.kif, it differs: y" for at in (1, 2, 3)], ""))
         with mock.patch.object(archive, "has_variables", lambda _: True), mock.patch.object(archive, "comparisons", lambda _, records: ["the same: 2 turns" for _ in records]):
             self.assertIn("the pages are right; 3 matches agree with descriptions that have variables; published with", self.check()[1])
 

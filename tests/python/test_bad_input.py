@@ -95,7 +95,7 @@ class BadInput(InFolder):
             except Refused:
                 self.assertIn(stop, (1, 2))
                 continue
-            # The rules on disk are the old ones, or those of the new description.
+            # The rules on disk are either the old ones or those of the new description.
             wrong = list(faults_of_descriptions(plan, plan.folder.description))
             self.assertEqual((plan.rules["game"].text == game.read_bytes(), bool(wrong)), (stop > 0, stop == 0), written)
 
@@ -176,6 +176,18 @@ class BadInput(InFolder):
         schedule.write_text(schedule.read_text().replace("ann bob", "bob ann"))
         self.assert_refused("schedule.tsv does not agree with competition.toml", "table")
 
+    def test_a_schedule_that_is_too_long_is_refused_at_its_first_row_too_many(self):
+        self.plan([("ann", "h:1"), ("bob", "h:2")], [("countdown", GAMES / "countdown.kif")])
+        schedule = self.folder / "schedule.tsv"
+        rows = schedule.read_bytes()
+        for more, number in ((b"x\n" * 200_000, 100_002), (b"x" * 200_000, rows.count(b"\n") + 1)):
+            schedule.write_bytes(rows + more)
+            words = "expected at most 100,000 matches, each in a row of less than 131,072 bytes\n"
+            self.assert_refused(f"schedule.tsv:{number}: {words}", "table")
+        # A row that is too long is not read to its end.
+        os.truncate(schedule, 1 << 40)
+        self.assert_refused(words, "table")
+
     def test_the_mistakes_of_all_descriptions_are_reported_together(self):
         for number, (text, _) in enumerate(DESCRIPTIONS):
             (self.folder / f"{number}.kif").write_text(text)
@@ -200,14 +212,14 @@ class BadInput(InFolder):
     @unittest.skipUnless(shutil.which("gringo"), "gringo is not installed")
     def test_what_instantiate_says_of_rules_is_told(self):
         (self.folder / "coins.kif").write_text("(role a) (init (s 101)) (<= (goal a ?x) (true (s ?x))) (goal a 7)")
-        # The first line is a comment of the author, and not of `ggp-instantiate`.
+        # The first line is a comment by the author, not by `ggp-instantiate`.
         (self.folder / "one.kif").write_text("; a comment\n" + (GAMES / "buttons.kif").read_text())
         self.write(PLAYERS, [("coins", "coins.kif", "aborts = true"), ("one", "one.kif")])
         status, out, said = run(self.folder, "plan")
         self.assertEqual((status, said, [line.split(":")[0] for line in out.splitlines()]), (0, "", ["coins", "coins", "one", "schedule.tsv"]))
         self.assertEqual(out.splitlines()[1], (
-            "coins: goals above 100 are left out (1, the first by sentence 2, line 1: (<= (goal a ?x) (true (s ?x)))): if one would hold at the end, the role gets the other goal that holds there; "
-            "if there is none, the match has no goals"
+            "coins: goals above 100 are left out (1, the first by sentence 2, line 1: (<= (goal a ?x) (true (s ?x)))): if a role would have such a goal value at the end, it gets its other goal value; "
+            "if it has no other, the match has no goal values"
         ))
 
     def test_an_instantiation_that_is_ended(self):
@@ -322,7 +334,7 @@ class BadInput(InFolder):
     def test_an_unwritable_folder(self):
         self.write(PLAYERS, [("tictactoe", GAMES / "tictactoe.kif")])
         self.folder.chmod(0o555)
-        # Without this capability, file permissions apply to root too.
+        # Without this capability, file permissions also apply to root.
         before = [] if os.geteuid() else ["setpriv", "--bounding-set=-dac_override"]
         words = [*before, sys.executable, COMMAND, "plan", "--program", program()]
         said = subprocess.run(words, cwd=self.folder, capture_output=True, text=True)

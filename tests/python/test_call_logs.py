@@ -80,7 +80,7 @@ class LogFaults(unittest.TestCase):
         before = LOG.replace("ready", "wrong")
         self.assertEqual(self.fault(before), "line 2 of its log does not agree with its call log")
         self.assert_foreign(LOG + LOG, 10)
-        # Only the events after the match began again are published.
+        # Only the events since the match began again are published.
         self.assert_foreign("".join([*LINES[:3], LINES[0], *LINES[3:]]), 2)
         lost = line_of(Other("lost", {"match": "cup-001", "time": 5, "reason": "gone"})).decode()
         self.assertEqual(published(f"Welcome\x1b[1m\n{before}{lost}{LOG}".encode(), "cup-001"), LOG.encode())
@@ -91,7 +91,7 @@ class LogFaults(unittest.TestCase):
             Other("lost", {"match": "cup-001", "time": 5, "reason": "bob was seen cheating"}), Other("held", {"match": "cup-001", "reason": None}),
         )
         for text in ("ggp_manager: bob was seen cheating\n", "\n", "{}\n", *(line_of(event).decode() for event in events)):
-            # A host begins another run of the match.
+            # The event about a host begins another run of the match.
             self.assert_foreign(LOG + text, 1 if "host" in text else 10)
             if "host" not in text:
                 self.assertEqual(published(f"{LOG}{text}".encode(), "cup-001"), LOG.encode())

@@ -1,5 +1,5 @@
-"""Archives of a competition that grew, with a match that was played again, and of a competition by rounds. `check` accepts these archives, and
-refuses each corrupted copy, even with matching checksums. test_archive.py has the corruptions that apply to any archive."""
+"""Archives of competitions that grew, with a match that was played again, and of competitions by rounds. `check` accepts these archives. It
+refuses each corrupted copy, even if the checksums match. test_archive.py has the corruptions that apply to any archive."""
 
 import json
 import pathlib

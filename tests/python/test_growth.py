@@ -1,4 +1,5 @@
-"""A competition that grows: planned matches stay, new ones follow them, and the message about a refused change names the change."""
+"""A competition that grows: planned matches stay as they are, and new ones follow them. If a change is refused, the message names the
+change."""
 
 import contextlib
 import unittest
@@ -36,7 +37,7 @@ def seated(matches):
 
 class Growth(unittest.TestCase):
     def grown(self, *versions, again=()):
-        """Plans the first file, replaces it by each of the others in turn, and returns the schedule."""
+        """Plans the first file, and then replaces it with each of the others in turn. Returns the schedule."""
         history = History((), tuple(again))
         for before, after in zip(versions, versions[1:]):
             refuse_changes(before, after)
@@ -96,6 +97,16 @@ class Growth(unittest.TestCase):
         ):
             self.assertEqual(str(raised(Misfit, self.grown, competition(2), again=again)), words)
 
+    def test_a_player_that_has_withdrawn_leaves_matches_out(self):
+        before = competition(3, form='kind = "schedule"\nlines = ["two p0 p1", "two p1 p2", "two p2 p0"]')
+        players = before.players[0], replace(before.players[1], withdrawn="why"), before.players[2]
+        history = History(((3, before),), (Again("cup-004", "cup-001", "x"),))
+        # A match that is replaced stays so. Its rematch has a result too.
+        for results, out in (("keep", ["cup-002"]), ("void", ["cup-002", "cup-004"])):
+            after = replace(before, players=players, withdrawn_results=results)
+            found = grown(history, after, ROLES, lambda match: match.id in ("cup-001", "cup-004") or None).matches
+            self.assertEqual([(match.id, match.withdrawn) for match in found if match.withdrawn], [(match, "p1 has withdrawn: why") for match in out])
+
     def test_the_number_of_matches_before_is_looked_at(self):
         why = raised(Misfit, grown, History(((5, competition(2)),)), competition(3), ROLES, nothing_known)
         self.assertEqual(str(why), "earlier/5.toml was replaced after 4 planned matches, not after 5 as its name says")
@@ -109,7 +120,7 @@ class Growth(unittest.TestCase):
     def test_the_limit_of_matches(self):
         orders = [Again("cup-005", "cup-001", "x"), Again("cup-006", "cup-002", "x")]
         more, same = (competition(3, 1, ("two",)), competition(4, 1, ("two",))), (competition(2),)
-        # The first nine matches that the second file alone would give do not include all matches of the first file.
+        # The first nine matches that follow from the second file do not include all matches of the first file.
         many = competition(3, 1, ("two",)), competition(6, 1, ("two",))
         cases = (12, more, [], False), (11, more, [], True), (6, same, orders, False), (5, same, orders, True), (8, many, [], True)
         for most, versions, again, is_past in cases:

@@ -34,7 +34,7 @@ OPEN = """
 (<= (next (said ?r ?n)) (does ?r (say ?n))) (<= terminal (true (said a ?n))) (<= (goal a 100) (true (said a 1))) (<= (goal a 0) (true (said a 2)))
 (<= (goal b 50) (role b))
 """
-# The most seconds that a thread waits for a person's action on a busy computer.
+# The maximum time, in seconds, for which a thread waits for a person's action on a busy computer.
 SECONDS = 60
 
 
@@ -86,7 +86,7 @@ class Seats(unittest.TestCase):
         self.seat.page_opens(1)
 
     def ask(self, text):
-        """Lets the seat answer a message in another thread, like the referee's."""
+        """Lets the seat answer a message in another thread, as the server does with messages of the referee."""
         thread = threading.Thread(target=lambda: self.answers.append(self.seat.answer(text)))
         thread.start()
         return thread
@@ -497,7 +497,7 @@ class Pages(unittest.TestCase):
             self.assertEqual(self.post("(INFO)"), b"available")
             begun = [call.args[1][0] for call in process.call_args_list]
             self.assertEqual((len(begun), begun[-1]), (most + 1, "127.0.0.1"))
-        # The referee has no such share.
+        # This limit does not apply to the referee.
         self.assertEqual({self.post("(INFO)") for _ in range(200)}, {b"available"})
 
     def half(self, source, count, size=60_000):

@@ -50,7 +50,7 @@ class Short(Counting):
 
 
 def broken_off(function, count, fault):
-    """Returns a function that works this many times, and then raises this error."""
+    """Returns a function that works this many times, and raises this error after that."""
     left = iter([None] * count)
 
     def called(*words):
@@ -173,8 +173,8 @@ class Kept(unittest.TestCase):
 
 
 class Said(Counting):
-    """A fake referee whose verdict on each record is in the record. It reproduces a call log if this contains `right`, and keeps the call logs and
-    records that it received."""
+    """A fake referee whose verdict on each record is in the record itself. It reproduces a call log if the call log contains `right`. It
+    remembers the call logs and records that it received."""
 
     def __init__(self, path):
         super().__init__()
@@ -245,8 +245,8 @@ class Looked(unittest.TestCase):
         self.assertEqual(referee_faults(self.plan, self.referee, "one", [], []), [])
 
     def known(self):
-        """Checks everything with the help of the cached facts, and caches the new ones. Returns the results, and the number of records that the
-        referee checked."""
+        """Checks everything with the help of the cached facts, and stores the new ones. Returns the results, and the number of records that
+        the referee checked."""
         known = Known(self.folder.path)
         results, faults, misfits = self.look(known)
         known.write()
@@ -402,7 +402,7 @@ class Lengths(Looked):
 
 
 class Files(InFolder):
-    """Errors that the bytes of a file alone show."""
+    """Errors that are visible in the bytes of a file."""
 
     def test_what_is_not_handed_to_the_referee(self):
         account = b"0\topen cup-1 0 1 1\topened\n"

@@ -10,8 +10,9 @@ import types
 import unittest
 from unittest import mock
 
-from ggp_tools.competition import open_match
+from ggp_tools.competition import checking, open_match
 from ggp_tools.competition.children import Done
+from ggp_tools.competition.competition_file import Launcher
 from ggp_tools.competition.files import Folder
 from ggp_tools.competition.jobs import Lost
 from ggp_tools.competition.open_match import OpenMatch, leave_players
@@ -60,8 +61,8 @@ class WithMatch(unittest.TestCase):
         self.meanwhile = lambda name: None
         self.enterContext(mock.patch.object(open_match, "run", self.run_process))
         self.description, self.held, self.described = (None, None), "the same: 2 turns", []
-        self.enterContext(mock.patch.object(open_match, "description_of", lambda plan, game: self.described.append((plan, game.name)) or self.description))
-        self.enterContext(mock.patch.object(open_match, "comparisons", self.hold))
+        self.enterContext(mock.patch.object(checking, "description_of", lambda plan, game: self.described.append((plan, game.name)) or self.description))
+        self.enterContext(mock.patch.object(checking, "comparisons", self.hold))
         self.begin(self.HEAD)
 
     async def run_process(self, words, seconds=None):
@@ -91,6 +92,7 @@ class WithMatch(unittest.TestCase):
         players, news = StartedPlayers(folder, competition, None, self.reporter), types.SimpleNamespace(set=lambda: self.left.append(self.open.stage))
         playing = types.SimpleNamespace(
             plan=self.plan, referee=self.referee, slots=self.slots, reporter=self.reporter, launcher=None, players=players, may_begin=lambda match: self.may_begin, news=news,
+            checking=checking.Checking(self.plan, self.referee),
         )
         self.slots.take(self.match)
         self.open = OpenMatch(playing, self.match)
@@ -159,7 +161,7 @@ class Whole(WithMatch):
         self.go()
         self.assertEqual((self.open.result, self.open.why, self.open.is_broken), (None, "ggp_manager: want of memory", True))
         self.assertEqual((self.files(), self.slots.free, self.names()[-1]), ([], {"ann": 1, "bob": 1}, "played"))
-        # The match's directory stays, since the players have not been freed yet.
+        # The match's directory stays, because the players have not been freed yet.
         self.assertTrue((self.open.directory / "players").exists())
 
     def test_if_the_referee_was_killed_the_started_players_are_named(self):
@@ -175,7 +177,7 @@ class Whole(WithMatch):
             for error in (asyncio.CancelledError, OSError):
                 self.begin(self.HEAD)
                 self.laid_down |= {"ann@h:1": READY, **({} if name == "checked" else {name: (error, b"", "")})}
-                with mock.patch.object(open_match, "check_match", side_effect=error), self.assertRaises(BaseException) as raised:
+                with mock.patch.object(checking, "keep_if_right", side_effect=error), self.assertRaises(BaseException) as raised:
                     self.go()
                 errors = getattr(raised.exception, "exceptions", [raised.exception])
                 self.assertEqual(([type(found) for found in errors], self.open.is_broken, self.open.directory.exists(), self.slots.free), ([error], is_broken, is_broken, {"ann": 1, "bob": 1}))
@@ -205,7 +207,8 @@ class Whole(WithMatch):
 
 class Asking(WithMatch):
     def asked(self, *answers, head=None):
-        """Plays a match with these answers of both players. Returns whether it was played, the reason if it was not, and the reports."""
+        """Plays a match in which both players give these answers. Returns whether it was played, the reason if it was not, and the
+        reports."""
         if head:
             self.begin(head)
         self.laid_down |= dict(zip(("ann@h:1", "bob@h:2"), answers))
@@ -359,9 +362,9 @@ class Checking(WithMatch):
             reports.append((match.id, files))
             return "report-cup-001.tar.gz"
 
-        with mock.patch.object(open_match, "write_report", report):
+        with mock.patch.object(checking, "write_report", report):
             why, files = self.checked()
-        self.assertEqual(why, f"compared with the description of heap it differs: turn 1; it is kept as {self.plan.folder.records}/cup-001.json.differs; please report it, with report-cup-001.tar.gz")
+        self.assertEqual(why, f"compared with the description of heap, it differs: turn 1; it is kept as {self.plan.folder.records}/cup-001.json.differs; please report this, and include report-cup-001.tar.gz")
         self.assertEqual((files, self.open.stops_game), (self.kept(".differs"), True))
         self.assert_whole()
         self.assertEqual(reports, [("cup-001", {"description.kif": b"(p ?x)", "record.json": self.record, "account.txt": self.account, "words.txt": b"differs: turn 1\n"})])
@@ -377,6 +380,7 @@ class Jobs(WithMatch):
     def setUp(self):
         super().setUp()
         self.open.directory.mkdir(parents=True)
+        self.open.playing.launcher = Launcher(("x",), 1)
         self.job = open_match.MatchJob(self.open)
 
     def test_events_go_to_the_log_and_other_lines_do_not(self):

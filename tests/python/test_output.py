@@ -1,4 +1,4 @@
-"""Descriptions, records and logs from other people: no command prints a long line of text from them, or a control character."""
+"""Descriptions, records and logs from other people: no command prints a long line, or a control character, from them."""
 
 import json
 import os

@@ -46,7 +46,7 @@ def nested(levels):
 
 
 class Levels(unittest.TestCase):
-    """64 nested lists are accepted, as by the referee, and 65 are refused."""
+    """64 nested lists are accepted, as in the referee, and 65 are refused."""
 
     def test_lists_in_one_another_in_a_text(self):
         self.assertEqual(term_of("(f " * 64 + "a" + ")" * 64), nested(64))

@@ -67,7 +67,8 @@ class Schedule(unittest.TestCase):
             for count in range(roles, 17):
                 for rounds in (1, 2):
                     found = matches(count, roles, f'kind = "round_robin"\nrounds = {rounds}')
-                    # The number of blocks of matches in which every two players would meet once, if the matches could be distributed evenly.
+                    # How many blocks of matches would be needed if every two players met once. This assumes that the matches can be
+                    # distributed evenly.
                     blocks = math.ceil(2 * (count - 1) / (roles * (roles - 1)))
                     self.assertEqual(len(found), count * blocks * rounds, (roles, count))
                     met = meetings(found)

@@ -1,4 +1,4 @@
-"""Players that the competition starts: their arguments, how they end, and that none of their processes is left."""
+"""Players that the competition starts: their arguments, how they end, and whether all of their processes end."""
 
 import asyncio
 import json
@@ -20,7 +20,7 @@ from ggp_tools.competition.started_players import PlayerLog, StartedPlayer, Star
 from ggp_tools.moments import MOMENT
 from support import GAMES, TOP, InFolder, Reports, command_of, program, program_but, run, script, start, toml, wait_until
 
-# Whether a player answers INFO: always, never, or once it has printed something.
+# Whether a player answers INFO: always, never, or only after it has printed something.
 ANSWERS, SILENT, PRINTED = ["true"], ["false"], ["printed"]
 
 
@@ -197,7 +197,7 @@ def test_a_port_that_is_taken_is_left_for_another(tmp_path):
 
 
 def test_all_that_a_player_has_started_is_ended(tmp_path):
-    # One process is in another session, one has another environment, one ignores SIGTERM.
+    # One process is in another session, one has another environment, and one ignores SIGTERM.
     script = "setsid sleep 600 & echo $!; env -i sleep 600 & echo $!; (trap '' TERM; echo $(exec sh -c 'echo $PPID'); while :; do sleep 600; done) & touch up; wait"
     ann = player(tmp_path, script)
     ann.referee.info_words = lambda place: ["test", "-e", str(tmp_path / "up")]
@@ -249,7 +249,7 @@ async def take(data):
     print(data.decode(), end="", flush=True)
 
 async def play():
-    job = Job(take, take, "player")
+    job = Job(take, take)
     limits = {"memory": 0, "processors": 0, "number": 0}
     words = ["sh", "-c", "setsid sleep 600 & echo $!; (setsid env -i sleep 600 & echo $!); echo $$; exec sleep 600"]
     job.start([], {"words": words, "player": {"host": "", "port": 0, "environment": {}, "directory": "/", **limits}})
@@ -275,10 +275,10 @@ def test_a_player_that_forks_without_end_is_ended(tmp_path):
 
 # ---- launchers
 
-def launched(room, words, launcher, program=None, info=ANSWERS):
+def launched(room, words, launcher, program=None, info=ANSWERS, **more):
     """Returns a player with a launcher, which is a script on this computer."""
     path = script(room / "launch", f"#!/bin/bash\n{launcher}\n")
-    return player(room, words, info, launcher=(program or str(path), "{player}"))
+    return player(room, words, info, launcher=(program or str(path), "{player}"), **more)
 
 
 def test_a_launcher_runs_the_player_and_reports_where(tmp_path, monkeypatch):
@@ -325,7 +325,7 @@ def test_a_launcher_that_reports_a_wrong_address_is_reported(tmp_path, words):
 
 
 def test_a_launcher_may_not_report_the_address_of_another_player(tmp_path):
-    """Neither that of a player with an address, nor that of a player that runs here."""
+    """The launcher may report neither the address of a player with an address, nor that of a player that runs here."""
     address = "localhost:9150"
     ann = launched(tmp_path, "exec sleep 600", "echo 'ggp_competition: player 1 127.0.0.1:9150' >&2; exec cat")
     players = [Player("bob", address, 1, 1, None), Player("cid", "", 1, 1, command("")), Player("ann", "", 1, 1, ann.command)]
@@ -334,6 +334,58 @@ def test_a_launcher_may_not_report_the_address_of_another_player(tmp_path):
     assert ann.reporter.lines[0].startswith("down cup-001 ann: it reported the address of bob, 127.0.0.1:9150; ")
     started.players["cid"].job, started.players["cid"].address = types.SimpleNamespace(running=asyncio.Future(loop=asyncio.new_event_loop())), "127.0.0.1:9150"
     assert started.known() == {"bob": address, "cid": "127.0.0.1:9150"}
+
+
+@pytest.mark.parametrize(("launcher", "key", "why"), [
+    ("echo queued >&2; exec sleep 600", "queue_seconds", "its launcher did not run it"),
+    ("echo queued >&2; echo 'ggp_competition: node n1' >&2; exec cat > /dev/null", "start_seconds", "it did not report its address"),
+])
+def test_a_launcher_that_never_reports_the_player_is_given_up(tmp_path, launcher, key, why):
+    ann = launched(tmp_path, "exec sleep 600", launcher, **{key: 1})
+    assert run_for(ann, "cup-001") == [None]
+    assert ann.reporter.lines == [f"down cup-001 ann: {why} within 1 s; it may need more `{key}`; the end of {ann.log.path}:", "down cup-001 ann: | queued"]
+
+
+def launched_at_one_address(room, info=ANSWERS):
+    """Returns two players whose launchers report the same address."""
+    ann = launched(room, "exec sleep 600", "echo 'ggp_competition: player 1 127.0.0.1:9150' >&2; exec cat", info=info)
+    players = [Player(name, "", 1, 1, ann.command) for name in ("ann", "bob")]
+    return StartedPlayers(ann.folder, types.SimpleNamespace(players=players), ann.referee, ann.reporter)
+
+
+@pytest.mark.parametrize("at_once", [True, False])
+def test_only_one_of_two_launched_players_at_one_address_is_used(tmp_path, at_once):
+    both = launched_at_one_address(tmp_path)
+
+    async def play():
+        for names in (("ann", "bob"),) if at_once else (("ann",), ("bob",)):
+            await both.ready("cup-001", names)
+        running = [name for name, player in both.players.items() if player.is_running()]
+        await both.end()
+        return running
+
+    one, = asyncio.run(play())
+    other = "bob" if one == "ann" else "ann"
+    assert both.players[one].reporter.lines[0].startswith(f"down cup-001 {other}: it reported the address of {one}, 127.0.0.1:9150; ")
+    assert at_once or one == "ann"
+    assert both.known() == {}
+
+
+def test_a_launched_player_that_does_not_answer_keeps_its_address_from_no_other(tmp_path):
+    both = launched_at_one_address(tmp_path, SILENT)
+
+    async def play():
+        silent = asyncio.create_task(both.ready("cup-001", ("ann",)))
+        while both.players["ann"].address != "127.0.0.1:9150":
+            await asyncio.sleep(0.01)
+        both.players["bob"].referee = types.SimpleNamespace(info_words=lambda place: ANSWERS)
+        await both.ready("cup-001", ("bob",))
+        silent.cancel()
+        running = both.players["bob"].is_running()
+        await both.end()
+        return running
+
+    assert asyncio.run(play())
 
 
 def test_a_launched_player_whose_node_is_lost_is_reported(tmp_path, monkeypatch):
@@ -366,7 +418,7 @@ def test_the_memory_of_all_processes_is_bounded_where_systemd_takes_it(tmp_path,
     user = "" if os.geteuid() == 0 else "--user "
     words = f"{user}--scope --quiet --property=MemoryMax={1 << 30} --property=MemorySwapMax=0 --"
     assert asked.read_text().splitlines() == [f"{words} true", f"{words} sh -c echo up; exec sleep 600"]
-    # A systemd-run that does not work, for example without systemd, is not used.
+    # If systemd-run does not work, for example because there is no systemd, it is not used.
     systemd.write_text("#!/bin/sh\nexit 1\n")
     assert (job.bounded(1 << 30), job.bounded(0)) == ([], [])
 
@@ -466,12 +518,19 @@ class Started(InFolder):
 
     def planned(self, *more, lines=("countdown ann bob",) * 2):
         players = "".join(f'\n[[players]]\nname = "{name}"\ncommand = ["{TOP}/examples/players/player.py", "{{port}}", "1"]\nstart_seconds = 600\n' for name in ("ann", "bob"))
-        text = toml([("ann", "h:1")], [("countdown", GAMES / "countdown.kif")], f'kind = "schedule"\nlines = {json.dumps(list(lines))}', self.HEAD)
+        games = [(name, GAMES / f"{name}.kif") for name in dict.fromkeys(line.split()[0] for line in lines)]
+        text = toml([("ann", "h:1")], games, f'kind = "schedule"\nlines = {json.dumps(list(lines))}', self.HEAD)
         text = text.replace(text[text.index("[[players]]"):], players + "\n".join(more))
         (self.folder / "competition.toml").write_text(text)
         status, out, said = run(self.folder, "plan")
         self.assertEqual((status, said), (0, ""), out)
         return [line.split("\t") for line in (self.folder / "schedule.tsv").read_text().splitlines()[1:]]
+
+    def launch(self, launcher, *keys):
+        """Gives the first player a launcher, and plans again."""
+        path, file = script(self.folder / "launch", f"#!/bin/bash\n{launcher}\n"), self.folder / "competition.toml"
+        file.write_text(file.read_text().replace("start_seconds = 600\n", "\n".join([f'launcher = ["{path}"]', *keys, ""]), 1))
+        self.assertEqual(run(self.folder, "plan")[0], 0)
 
     def processes(self):
         """Returns the players that were started so far."""
@@ -492,7 +551,7 @@ class Started(InFolder):
             self.assertEqual(run(self.folder, *words)[::2], (0, ""))
 
     def ended(self, number):
-        """Starts `play`, waits until a match that does not end has begun, and sends a signal. Returns the output and the players of `play`."""
+        """Starts `play`, waits until an endless match has begun, and sends a signal. Returns the output and the players of `play`."""
         waiting = program_but(self.folder / "waiting", '"$1" = run', "exec sleep 3600")
         playing = start(self.folder, "play", "--program", waiting)
         self.assertEqual(playing.stdout.readline(), "begin cup-001 countdown ann bob\n")
@@ -523,6 +582,24 @@ class Started(InFolder):
         self.assertEqual(status, 1, out)
         self.assertRegex(out, r"down cup-001 ann: it ended with status 2; the end of players/ann.log:\ndown cup-001 ann: \| usage: ")
         self.assertIn("missing cup-001: ann is silent\n", out)
+
+    def test_a_launcher_that_hangs_holds_up_no_other_match(self):
+        self.planned(lines=["buttons ann", "buttons bob"])
+        self.launch("echo queued >&2; exec sleep 3600", "queue_seconds = 1")
+        status, out, said = run(self.folder, "play")
+        self.assertEqual((status, said), (1, ""))
+        self.assertIn("down cup-001 ann: its launcher did not run it within 1 s; it may need more `queue_seconds`; the end of players/ann.log", out)
+        self.assertEqual(out.splitlines()[-2:], ["missing cup-001: ann is silent", "1 of 2 matches have a lawful record"])
+
+    def test_an_interrupt_does_not_wait_for_a_launcher(self):
+        self.planned(lines=["buttons ann"])
+        os.mkfifo(self.folder / "asked")
+        self.launch(f"echo asked > {self.folder}/asked; exec sleep 3600")
+        playing = start(self.folder, "play")
+        self.assertEqual((self.folder / "asked").read_text(), "asked\n")
+        playing.send_signal(signal.SIGINT)
+        out, said = playing.communicate(timeout=600)
+        self.assertEqual((playing.returncode, said, out.splitlines()[-2:]), (1, "", ["missing cup-001: not begun", "0 of 1 matches have a lawful record"]))
 
     def test_try(self):
         self.planned()
@@ -563,7 +640,7 @@ class Started(InFolder):
     @unittest.skipUnless(os.geteuid() == 0, "only root can run a player as another user")
     def test_a_player_of_another_user_reads_and_ends_nothing(self):
         thief, python = script(self.folder / "thief.py", THIEF), self.folder / "python"
-        # The other user can read this directory, but not the directory of the repository or that of open matches.
+        # The other user can read this directory, but neither the directory of the repository nor that of open matches.
         self.folder.chmod(0o755)
         shutil.copytree(TOP / "python", python, ignore=shutil.ignore_patterns("__pycache__"))
         schedule = self.planned('launcher = ["setpriv", "--reuid=65534", "--regid=65534", "--clear-groups"]\nrestart = "each_match"')

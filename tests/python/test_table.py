@@ -38,7 +38,8 @@ def result(players, goals, wrong=None, retired=None, game="two"):
 
 class Tables(unittest.TestCase):
     def test_the_order_and_places(self):
-        # Means of 33.333.. and 33.33 are printed in the same way, so wins decide, then losses. If these are equal too, the rank is shared.
+        # Means of 33.333.. and 33.33 are printed in the same way. So wins decide, and then losses. If these are equal too, the rank is
+        # shared.
         line = Line("x", matches=3, scored=3, goals=100, won=1, lost=2)
         changes = [
             ({}, {"goals": 101}, 1), ({"goals": 3333, "scored": 100}, {"won": 0}, -1), ({}, {"goals": 3333, "scored": 100}, 0),
@@ -68,7 +69,7 @@ class Tables(unittest.TestCase):
         self.assertEqual([row[rows[0].index("by forfeit")] for row in rows[1:]], ["0 won, 1 lost"] * 2)
 
     def test_substituted_moves_do_not_decide_places(self):
-        # By goals only, bob would be above ann, with fewer wins.
+        # By goals only, bob would be above ann, although he has fewer wins.
         results = [result(["ann", "cid"], [0, 100], [0, 5], retired=[False, True])] * 10 + [result(["ann", "dan"], [100, 0])] * 8
         results += [result(["ann", "dan"], [0, 100])] * 2 + [result(["bob", "dan"], [100, 0])] * 17 + [result(["bob", "dan"], [0, 100])] * 3
         table = tables_of(competition("forfeit = true"), results)[0]

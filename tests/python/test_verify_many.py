@@ -1,5 +1,5 @@
-"""Checking records with many processes gives the same results as with one. A fake program accepts lines with `ok`, and treats lines that begin with
-a digit as lines of call logs."""
+"""Many processes give the same results for records as one process. A fake program accepts lines that contain `ok`. It treats lines that
+begin with a digit as lines of call logs."""
 
 import contextlib
 import io
@@ -34,7 +34,7 @@ def reading(read):
 
 class Pieces(unittest.TestCase):
     def pieces(self, size, *parts):
-        """Returns the pieces of an input that is read in these parts. An exception among the parts is raised."""
+        """Returns the pieces of an input that is read in these parts. If a part is an exception, it is raised."""
         reads = iter(parts)
 
         def read(stream, most):
@@ -109,7 +109,7 @@ class Checks(WithProgram):
 
     def test_a_fault_of_the_program(self):
         self.assertEqual(self.checked(b"ok\nshort\n"), (b"lawful\n", 0, 0, (b"ggp_manager: want of memory\n", 2)))
-        # With an unlawful record, the exit status is 1, otherwise 0.
+        # If there is an unlawful record, the exit status is 1, otherwise 0.
         for name, row, status in (("silent", "", 1), ("wrong", verdict_rows("goals").decode(), 0), ("fault", verdict_rows("goals").decode(), 2)):
             program = self.stand_in(name, f"#!/bin/sh\ncat > /dev/null\necho said >&2\nprintf '%s' '{row}'\nexit {status}\n")
             self.assertEqual(self.checked(b"no\n", program)[1:], (0, 0, (b"said\n", 2)), name)

@@ -8,66 +8,69 @@ import sys
 from collections.abc import Awaitable, Callable, Sequence
 
 from ggp_tools.competition.children import MOST_AT_ONCE, started
-from ggp_tools.competition.competition_file import is_address
+from ggp_tools.competition.competition_file import QUEUE_SECONDS, is_address
 from ggp_tools.competition.job import BEAT, OURS
 from ggp_tools.match_log import LONGEST_LINE
 from ggp_tools.printable import printable
 
 SILENT, LONG = "nothing was heard from it for {:.0f} s", "it sent a line of more than {:,} bytes"
+NOT_RUN = "its launcher did not run it within {:,} s; it may need more `queue_seconds`"
 NO_PLAYER = "it sent {!r} instead of the player's process and address"
-# After a job has ended, its output is read for at most this many seconds, because a process that the job left behind may keep the pipe open.
+# After a job has ended, its output is read only for this many seconds, because a process that the job left behind may keep the pipe open.
 MOST_UNREAD = 2
-# A job has END_SECONDS to end its processes. It counts as lost if it sends nothing for LOST_SECONDS.
+# A job has END_SECONDS to end its processes. If it sends nothing for LOST_SECONDS, it counts as lost.
 END_SECONDS, LOST_SECONDS = 3, 10
-# A job ends its processes if this program sends nothing for this many seconds, so that the match can be started elsewhere. On this computer, a job
-# notices at once when this program has ended, and this program may be silent, for example while it is stopped by Ctrl-Z.
+# If this program sends nothing for this many seconds, a job ends its processes, so that the match can be started elsewhere. A job on this
+# computer notices at once when this program ends, so this program may be silent, for example while it is stopped by Ctrl-Z.
 SILENCE, HERE_SILENCE = 20, 10**9
-# The maximum length of the name of a node, and of a process with its address.
+# The maximum length of the name of a node, and that of a process with its address.
 MOST_OF_NAME = 300
 PROCESS = re.compile("[0-9]{1,10}")
 JOB = pathlib.Path(__file__).with_name("job.py").absolute()
 
 
 class Lost(Exception):
-    """Why a job was given up."""
+    """The reason why a job was given up."""
 
 
 def is_player(text: str) -> bool:
-    """Returns whether a text is the process of a player and its address."""
+    """Returns whether a text has the form of a player's process id and address."""
     process, _, address = text.partition(" ")
     return bool(PROCESS.fullmatch(process)) and is_address(address)
 
 
 class Job:
     """A run of `job.py` by a launcher on another computer, or on this one without a launcher. `take_output` gets its standard output, and `take_lines`
-    the lines of standard error that it passes on, several at a time. The job is up when it has sent the line that begins with the word `up`. The
-    computer on which it runs may be hostile."""
+    the lines of standard error that it passes on, several at a time. A launcher must run the job within `queue_seconds`. The computer on which it runs
+    may be hostile."""
 
     def __init__(
-        self, take_output: Callable[[bytes], Awaitable[None]], take_lines: Callable[[bytes], Awaitable[None]], up: str = "node", end_seconds: float = END_SECONDS
+        self, take_output: Callable[[bytes], Awaitable[None]], take_lines: Callable[[bytes], Awaitable[None]],
+        queue_seconds: float = QUEUE_SECONDS, end_seconds: float = END_SECONDS,
     ) -> None:
-        self.take_output, self.take_lines, self.up, self.end_seconds = take_output, take_lines, up, end_seconds
-        self.is_up, self.process, self.is_remote = asyncio.Event(), None, False
+        self.take_output, self.take_lines, self.queue_seconds, self.end_seconds = take_output, take_lines, queue_seconds, end_seconds
+        self.runs, self.has_player, self.process, self.is_remote = asyncio.Event(), asyncio.Event(), None, False
         # What the job reports: the node, the process and the address of a player, and the exit status. Then the reason why the job was given up.
         self.node, self.player, self.status, self.why = "", "", None, ""
-        # Whether the job has its task, and whether the task may go on after the local process of the job has ended.
+        # Whether the job has its task, and whether the task may continue after the local process of the job has ended.
         self.has_begun, self.goes_on = False, False
 
     def start(self, launcher: Sequence[str], task: dict[str, object] | None = None) -> None:
-        """Starts the job. The task `running` ends with it."""
+        """Starts the job. When it ends, the task `running` ends."""
         self.running = asyncio.create_task(self.run(launcher, task))
 
     def begin(self, task: dict[str, object]) -> None:
-        """Sends the job its command. No launcher needs to quote it."""
+        """Sends the job its command through standard input, so no launcher needs to quote it."""
         self.has_begun = True
         self.process.stdin.write(json.dumps(task).encode() + b"\n")
 
-    async def came_up(self) -> bool:
-        """Waits until the job is running on its node, or has ended. Returns whether it is running."""
-        starting = asyncio.create_task(self.is_up.wait())
-        await asyncio.wait([self.running, starting], return_when=asyncio.FIRST_COMPLETED)
-        starting.cancel()
-        return self.is_up.is_set() and not self.running.done()
+    async def reports(self, event: asyncio.Event, seconds: float | None = None) -> bool:
+        """Waits, for at most this many seconds, until the job has reported that it runs or has a player, or has ended. Returns whether it has reported that,
+        and has not ended."""
+        reporting = asyncio.create_task(event.wait())
+        await asyncio.wait([self.running, reporting], timeout=seconds, return_when=asyncio.FIRST_COMPLETED)
+        reporting.cancel()
+        return event.is_set() and not self.running.done()
 
     async def run(self, launcher: Sequence[str], task: dict[str, object] | None) -> None:
         self.is_remote = bool(launcher)
@@ -81,7 +84,7 @@ class Job:
                 await asyncio.wait([ending, reading], return_when=asyncio.FIRST_COMPLETED)
             finally:
                 beating.cancel()
-                # The job gets time to end the processes on the node, which may continue if the job is killed.
+                # The job gets time to end its processes on the node. If the job were killed, they might continue.
                 self.process.stdin.close()
                 await asyncio.wait([ending], timeout=self.end_seconds)
                 self.goes_on = self.has_begun and not has_ended.is_set()
@@ -105,24 +108,24 @@ class Job:
             await self.take_output(data)
 
     async def read_lines(self) -> None:
-        """Reads standard error. A job may be silent while it waits in a queue, but not once it runs."""
+        """Reads standard error. While a job waits in a queue, it may be silent, but not when it runs."""
         rest = b""
         try:
-            async with asyncio.timeout(None) as silence:
+            async with asyncio.timeout(self.queue_seconds if self.is_remote else None) as silence:
                 while data := await self.process.stderr.read(MOST_AT_ONCE):
                     *lines, rest = (rest + data).split(b"\n")
                     await self.take(lines)
                     if len(rest) > LONGEST_LINE:
                         raise Lost(LONG.format(LONGEST_LINE))
-                    if self.node and self.is_remote:
+                    if self.is_remote and self.runs.is_set():
                         silence.reschedule(asyncio.get_running_loop().time() + LOST_SECONDS)
         except TimeoutError:
-            raise Lost(SILENT.format(LOST_SECONDS)) from None
+            raise Lost(SILENT.format(LOST_SECONDS) if self.runs.is_set() else NOT_RUN.format(self.queue_seconds)) from None
         if rest:
             await self.take([rest])
 
     async def take(self, lines: list[bytes]) -> None:
-        """Handles lines of standard error: first those of the job itself, then all others together, because there may be very many."""
+        """Handles lines of standard error: first the job's own lines, and then all others together, because there may be very many."""
         for line in lines:
             if line.startswith(OURS):
                 self.take_own(line)
@@ -134,16 +137,17 @@ class Job:
         word, _, rest = line.removeprefix(OURS).decode("ascii", "replace").partition(" ")
         if word == "player" and not is_player(rest):
             raise Lost(NO_PLAYER.format(printable(rest, MOST_OF_NAME)))
+        self.runs.set()
         if word in ("node", "player") and not getattr(self, word):
             setattr(self, word, printable(rest)[:MOST_OF_NAME])
         elif word == "status" and re.fullmatch("-?[0-9]{1,3}", rest):
             self.status = int(rest)
-        if word == self.up:
-            self.is_up.set()
+        if self.player:
+            self.has_player.set()
 
     async def beat(self) -> None:
         """Sends the job a byte every few seconds, once it runs."""
-        await self.is_up.wait()
+        await self.runs.wait()
         while not self.process.stdin.is_closing():
             self.process.stdin.write(b"\n")
             await asyncio.sleep(BEAT)

@@ -1,4 +1,4 @@
-"""One match, from INFO to its files."""
+"""Plays one match, from INFO to the files of the match."""
 
 import asyncio
 import contextlib
@@ -6,31 +6,27 @@ import pathlib
 import shutil
 import tempfile
 import time
-from typing import TYPE_CHECKING, NamedTuple
+from typing import TYPE_CHECKING
 
-from ggp_tools.competition.children import Done, run, send_aborts
-from ggp_tools.competition.described import DIFFERS, IS_NOT_FOLLOWED, IS_SAME, comparisons, description_of, write_report
-from ggp_tools.competition.files import ASKING, CHECKING, PLAYERS, PLAYING, file_bytes, new_file, write_whole
+from ggp_tools.competition.children import Done, in_thread, run, send_aborts
+from ggp_tools.competition.files import ASKING, CHECKING, PLAYERS, PLAYING, new_file, write_whole
 from ggp_tools.competition.jobs import SILENCE, Job, Lost
-from ggp_tools.competition.match_files import check_of, fault_of_files, keep, referee_faults
-from ggp_tools.competition.plan import Plan
-from ggp_tools.competition.results import Result
 from ggp_tools.competition.schedule import Match
 from ggp_tools.match_log import Event, Host, Other, line_of
-from ggp_tools.printable import MOST_READ, message_lines, printable
+from ggp_tools.printable import MOST_READ, message_lines
 from ggp_tools.records.lengths import LONGEST_ACCOUNT, MOST_TURNS, longest_record
-from ggp_tools.referee import Referee, Unchecked
 
 if TYPE_CHECKING:
     from ggp_tools.competition.playing import Playing
 
-# The referee ends INFO by itself after WHOLE seconds. Within SOON more seconds, it has reported whether it ran out of a resource.
+# The referee ends INFO by itself after WHOLE seconds. If it ran out of a resource, it reports this within SOON more seconds.
 WHOLE, SOON = 10, 1
 FREE = ("available", "ready", "unknown")
-# The maximum number of bytes that a launcher may send before a match, and that the log has for each message besides its texts.
+# The maximum number of bytes that a launcher may send before a match, and the maximum number of bytes that the log has for a message
+# besides its texts.
 MOST_BEFORE, MOST_OF_MESSAGE = 1 << 20, 1 << 10
 TOO_MUCH = "it sent more than {:,} bytes, which is more than any match needs"
-# The players of a match that was lost with its node must answer ABORT within this many seconds.
+# If a match is lost with its node, its players must answer ABORT within this many seconds.
 ABORT_SECONDS = 5
 EVENT = b'{"event":'
 
@@ -44,13 +40,15 @@ def leave_players(directory: pathlib.Path) -> None:
 
 
 def reason_of(done: Done, player: str) -> str:
-    """Returns in parentheses why a player did not answer INFO, for example because its HTTP status is not 200, if the referee has reported a reason."""
+    """If the referee has reported why a player did not answer INFO, for example because the HTTP status is not 200, returns this reason in
+    parentheses."""
     start = f"ggp_manager: {player}: "
     return next((f" ({line.removeprefix(start)})" for line in message_lines(done.errors) if line.startswith(start)), "")
 
 
 class OpenMatch:
-    """An open match. At the end it has a result, or the reason why there is none. Without either it waits to be played later."""
+    """An open match. At its end, it has either a result, or the reason why there is none. If it has neither, it waits to be played
+    later."""
 
     def __init__(self, playing: "Playing", match: Match) -> None:
         self.playing, self.match = playing, match
@@ -59,33 +57,38 @@ class OpenMatch:
         self.directory, self.log = self.plan.folder.open / match.id, self.plan.folder.room_log(match.id)
         self.places: list[str] = []
         self.stage, self.seconds = ASKING, 0.0
-        # When the match took the slots of its players. If a player fails to answer while several matches are open, that counts as one try.
+        # When the match took the slots of its players. If a player that was asked for several matches at the same time does not answer,
+        # that counts as one try.
         self.taken_at, self.has_slots = time.monotonic(), True
         self.result, self.why = None, None
-        # Whether its players must be sent ABORT, whether a referee may still play it on a node, and whether the rules of its game are wrong.
+        # Whether its players must be sent ABORT; whether a referee may still play it on a node; whether the rules of its game are wrong.
         self.is_broken, self.goes_on, self.stops_game = False, False, False
 
     async def go(self) -> None:
-        """Plays the match. A match that is ended while it is being played is broken."""
+        """Plays the match. If the match is ended while it is being played, `is_broken` is set."""
         try:
-            self.directory.mkdir(0o700, parents=True, exist_ok=True)
-            self.enter(ASKING)
-            new_file(self.log).close()
+            # Threads wait for the disk.
+            await in_thread(self.make_directory)
             if played := await (self.play_elsewhere() if self.playing.launcher else self.play_here()):
                 self.release_players()
-                self.enter(CHECKING)
-                # The check runs in a thread, because it waits for the disk.
-                check = await asyncio.to_thread(check_match, self.plan, self.playing.referee, self.match, played, file_bytes(self.log))
-                self.result, self.why, self.stops_game = check
+                self.stage = CHECKING
+                await in_thread((self.directory / CHECKING).touch)
+                self.result, self.why, self.stops_game = await self.playing.checking.check(self.match, played, self.log)
         except BaseException:
             self.is_broken = self.stage == PLAYING
             raise
         finally:
             self.close()
 
-    def enter(self, stage: str) -> None:
-        self.stage = stage
-        (self.directory / stage).touch()
+    def make_directory(self) -> None:
+        self.directory.mkdir(0o700, parents=True, exist_ok=True)
+        (self.directory / ASKING).touch()
+        new_file(self.log).close()
+
+    def name_players(self) -> None:
+        """Names the players of a match that begins. They must be sent ABORT if the referee ends before the match."""
+        write_whole(self.directory / PLAYERS, "".join(f"{place}\n" for place in self.places).encode())
+        (self.directory / PLAYING).touch()
 
     def release_players(self) -> None:
         if self.has_slots:
@@ -95,18 +98,18 @@ class OpenMatch:
             self.playing.news.set()
 
     def close(self) -> None:
-        """Removes the directory, unless the players of the match must still be sent ABORT, because the match broke now or during an earlier
+        """Removes the directory, unless the match has a result, or its players must still be sent ABORT because it broke now or during an earlier
         `play`."""
         if self.stage == ASKING and (self.directory / PLAYERS).exists():
             leave_players(self.directory)
-        elif not self.is_broken:
+        elif not self.is_broken and not self.result:
             shutil.rmtree(self.directory, ignore_errors=True)
 
     async def can_be_played(self) -> bool:
-        """Begins the match if its players are free, unless it has begun already. Returns whether it has begun."""
+        """Returns whether the match has begun. If it has not, and its players are free, begins it."""
         if self.stage == ASKING and await self.ask() and self.playing.may_begin(self.match):
-            write_whole(self.directory / PLAYERS, "".join(f"{place}\n" for place in self.places).encode())
-            self.enter(PLAYING)
+            self.stage = PLAYING
+            await in_thread(self.name_players)
         return self.stage == PLAYING
 
     async def ask(self) -> bool:
@@ -116,7 +119,7 @@ class OpenMatch:
         self.places = list(map(self.players.place, players))
         async with asyncio.TaskGroup() as group:
             asked = [group.create_task(self.info(player, place)) for player, place in zip(players, self.places)]
-        # Errors of this computer do not count against a player.
+        # An error of this computer does not count against a player.
         return not self.why and self.can_begin({player: task.result() for player, task in zip(players, asked)})
 
     async def info(self, player: str, place: str) -> str:
@@ -127,7 +130,7 @@ class OpenMatch:
         answer, is_unknown = verdict.get("verdict", ""), verdict.get("lacks") == "resolver"
         is_silent = done.status is None or answer == "no_answer" or is_unknown
         if is_silent:
-            # Only the elapsed time distinguishes a refused or lost connection from a player that did not answer in time.
+            # A refused or lost connection, and a player that did not answer in time, can be distinguished only by the elapsed time.
             is_refused = done.status is not None and done.seconds < WHOLE
             answer = "its host name is unknown" if is_unknown else f"refused{reason_of(done, player)}" if is_refused else "silent"
         elif done.status or not answer:
@@ -137,7 +140,8 @@ class OpenMatch:
         return "silent" if is_silent else answer
 
     def can_begin(self, answers: dict[str, str]) -> bool:
-        """Returns whether the match can begin after these answers. If not, it waits, or has the reason why it is not played."""
+        """Returns whether the match can begin after these answers. If it cannot, it either waits, or gets the reason why it is not
+        played."""
         missed = {player: answer for player, answer in answers.items() if answer not in FREE}
         for player in answers.keys() - missed.keys():
             self.slots.count_answer(player)
@@ -165,18 +169,18 @@ class OpenMatch:
             file.write(line_of(event))
 
     async def play_here(self) -> bytes | None:
-        """Plays the match on this computer. Returns the referee's output, or None if the match is broken or has not begun."""
+        """Plays the match on this computer, and returns the referee's output. If the match is broken off or has not begun, returns None."""
         if not await self.can_be_played():
             return None
         self.reporter.begins(self.match)
         return self.outcome_of(await run(self.run_words(self.log.absolute())))
 
     def outcome_of(self, done: Done) -> bytes | None:
-        """Returns the output of the referee if the exit status says that the referee has played the match."""
+        """Returns the output of the referee. If the exit status says that the referee has not played the match, returns None."""
         self.seconds = done.seconds
         if done.status:
             self.why, self.is_broken = done.message(), True
-            # A started player may run as the same user, and could have killed the referee.
+            # A started player may run as the same user, so it may have killed the referee.
             if done.status < 0 and (started := [player.name for player in self.players.of(self.match.players)]):
                 self.why += f"; started players that ran: {', '.join(started)}"
         return None if done.status else done.output
@@ -189,11 +193,11 @@ class OpenMatch:
                 return None
             if not job.why and job.status is not None:
                 return self.outcome_of(done)
-            why = job.why or done.message()
+            why = ": ".join([job.why, *message_lines(done.errors)[-1:]]) if job.why else done.message()
             self.add_event(Other("lost", {"match": self.match.id, "time": int(time.time() * 1_000), "reason": why}))
             self.reporter.line(f"lost {self.match.id} on {job.node or 'no node'}: {why}")
             if job.has_begun:
-                # The referee may continue to run on a node that can no longer be reached.
+                # The referee may still run on a node that can no longer be reached.
                 await asyncio.sleep(SILENCE)
                 await self.abort()
             elif tries_left:
@@ -209,10 +213,10 @@ class OpenMatch:
 
 
 class MatchJob(Job):
-    """A job that plays a match on a node. The job may not send more than a referee can write about the match."""
+    """A job that plays a match on a node. The job must not send more than a referee can write about the match."""
 
     def __init__(self, open_match: OpenMatch) -> None:
-        super().__init__(self.take_output, self.take_lines)
+        super().__init__(self.take_output, self.take_lines, open_match.playing.launcher.queue_seconds)
         self.match = open_match
         record, roles = longest_record(open_match.plan.rules[open_match.match.game].text), len(open_match.match.players)
         # Each player is sent all moves, and a byte of an answer may take six bytes in the log.
@@ -233,7 +237,7 @@ class MatchJob(Job):
             self.take_line(line)
 
     def take_line(self, line: bytes) -> None:
-        """Takes a line of standard error: an event of the log, or a message of the launcher or the referee."""
+        """Handles a line of standard error: an event of the log, or a message of the launcher or the referee."""
         self.count(len(line) + 1)
         if line.startswith(EVENT):
             with open(self.match.log, "ab") as log:
@@ -242,12 +246,12 @@ class MatchJob(Job):
             self.errors = (self.errors + line + b"\n")[-MOST_READ:]
 
     async def play(self) -> Done | None:
-        """Has the launcher run the job. Once it runs, the players are asked, and if they are free, the job plays the match. Returns None if they are
-        not free."""
+        """Has the launcher run the job. When the job runs, the players are asked. If they are free, the job plays the match. Otherwise
+        returns None."""
         match, began = self.match, time.monotonic()
         self.start([word.replace("{match}", match.match.id) for word in match.playing.launcher.command])
         try:
-            if await self.came_up():
+            if await self.reports(self.runs):
                 if not await match.can_be_played():
                     return None
                 match.add_event(Host(match.match.id, self.node))
@@ -261,59 +265,3 @@ class MatchJob(Job):
         finally:
             await self.end()
             match.goes_on = self.goes_on
-
-
-# ---- the check of a match that was played
-
-
-class Checked(NamedTuple):
-    """The result of a match, or why it does not count, and whether the rules of its game are wrong."""
-
-    result: Result | None = None
-    why: str | None = None
-    stops_game: bool = False
-
-
-def check_match(plan: Plan, referee: Referee, match: Match, output: bytes, log: bytes) -> Checked:
-    """Has the referee verify the record and replay the call log in the output of a match, compares the match with the description of its game, and only
-    then writes the files. If the referee gives no verdict, the files get the ending `.unchecked`."""
-    line, end, account = output.partition(b"\n")
-    record = line + end
-    if fault := fault_of_files(record, account, plan.rules[match.game].text):
-        return Checked(why=fault)
-    try:
-        (fault,) = referee_faults(plan, referee, match.game, [record], [account])
-    except Unchecked as why:
-        file = keep(plan.folder, match.id, record, account, log, "unchecked")
-        return Checked(why=f"it was played, but not checked, and is kept as {file}: {why}")
-    check = check_of(plan, match, record, fault)
-    if not check.result:
-        return Checked(why=check.fault or check.misfit)
-    description, comparison = compare(plan, match, record)
-    if comparison and comparison.startswith(DIFFERS):
-        file = keep(plan.folder, match.id, record, account, log, "differs")
-        files = {"description.kif": description, "record.json": record, "account.txt": account, "words.txt": f"{comparison}\n".encode("ascii", "replace")}
-        report = write_report(plan, match, files)
-        why = f"compared with the description of {match.game} it {comparison}; it is kept as {file}; please report it, with {report}"
-        return Checked(None, why, True)
-    if comparison:
-        why_not = None if comparison.startswith(IS_SAME) else printable(comparison.removeprefix(IS_NOT_FOLLOWED))
-        log += line_of(Other("held", {"match": match.id, "reason": why_not}))
-    keep(plan.folder, match.id, record, account, log)
-    return Checked(check.result)
-
-
-def compare(plan: Plan, match: Match, record: bytes) -> tuple[bytes | None, str | None]:
-    """Compares a record with the description of its game. Returns the description, and the outcome or the reason why there is none. Both are None if the game was given as ground rules."""
-    game = next(game for game in plan.competition.games if game.name == match.game)
-    description, why_not = description_of(plan, game)
-    if description is None:
-        return None, why_not
-    # The comparison uses a copy, because the file may change meanwhile.
-    with tempfile.NamedTemporaryFile(dir=plan.folder.open / match.id) as copy:
-        copy.write(description)
-        copy.flush()
-        try:
-            return description, comparisons(pathlib.Path(copy.name), [record])[0]
-        except Unchecked as why:
-            return description, str(why)

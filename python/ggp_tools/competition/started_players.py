@@ -1,4 +1,4 @@
-"""Players that the competition starts and ends, on this computer or through launchers. Each has a port, limits and a log."""
+"""Manages the players that the competition starts and ends, on this computer or through launchers. Each has a port, limits and a log."""
 
 import asyncio
 import contextlib
@@ -23,26 +23,28 @@ from ggp_tools.reporting import Reporter
 HERE, NOWHERE = "127.0.0.1", "127.0.0.1:1"
 # A player must end within this many seconds.
 END_SECONDS = 15
-# The first pause between two INFO messages to a player that is starting. Each pause is twice as long as the previous one, up to a second.
+# The first pause between two INFO messages to a player that is starting. Each further pause is twice as long as the previous one, up to a
+# second.
 FIRST_PAUSE, LONGEST_PAUSE = 0.05, 1.0
-# A larger log is renamed, and replaces the one that was renamed before.
+# A log that is larger than this is renamed. It replaces the log that was renamed before.
 MOST_BYTES = 1 << 20
-# If this many bytes come at once, the next ones are read after a pause, so that a player cannot slow down matches. At most twice as many come at once.
+# If this many bytes come at once, the next bytes are read after a pause, so that no player slows down matches. At most twice as many bytes
+# come at once.
 CHUNK, CHUNK_PAUSE = 1 << 15, 0.02
 # If a player does not start, at most this many of its last lines are reported.
 LAST_LINES = 5
 
 
 class PlayerLog:
-    """The file NAME.log, which has the output of a player."""
+    """The file NAME.log, which contains the output of a player."""
 
     def __init__(self, path: pathlib.Path) -> None:
         self.path, self.size = path, path.stat().st_size if path.exists() else 0
-        # Where the output since the last start begins.
+        # The position at which the output since the last start begins.
         self.begin = self.size
 
     def mark(self, text: str) -> None:
-        """Writes a line between the output of an earlier start and that of the next one."""
+        """Writes a line that separates the output of an earlier start from the output of the next one."""
         if self.size:
             self.write(f"---- {moment()} {text}\n".encode())
         self.begin = self.size
@@ -53,18 +55,18 @@ class PlayerLog:
             await asyncio.sleep(CHUNK_PAUSE)
 
     def write(self, data: bytes) -> None:
-        """Appends output. Output that cannot be written is lost, because a full disk must not end the player."""
+        """Appends output. If the output cannot be written, it is lost, because a full disk must not end the player."""
         with contextlib.suppress(OSError):
             if self.size > MOST_BYTES:
                 os.replace(self.path, f"{self.path}.1")
                 self.begin = 0
-            # Only the owner can read the log, as with the directory of open matches.
+            # Only the owner can read the log, as is the case for the directory of open matches.
             with open(self.path, "ab", buffering=0) if self.path.exists() else new_file(self.path) as file:
                 file.write(data)
                 self.size = file.tell()
 
     def last_lines(self) -> list[str]:
-        """Returns the last lines since the last start, or none if the file is missing."""
+        """Returns the last lines since the last start. If the file is missing, returns none."""
         try:
             return message_lines(file_bytes(self.path)[self.begin :][-MOST_READ:])[-LAST_LINES:]
         except OSError:
@@ -77,13 +79,14 @@ class StartedPlayer:
     def __init__(self, folder: Folder, player: Player, number: int, referee: Referee, reporter: Reporter) -> None:
         self.folder, self.name, self.command, self.number = folder, player.name, player.command, number
         self.referee, self.reporter, self.log = referee, reporter, PlayerLog(folder.players / f"{player.name}.log")
-        self.job, self.address, self.port, self.was_started = None, NOWHERE, 0, False
+        self.job, self.address, self.port, self.was_started, self.has_answered = None, NOWHERE, 0, False, False
         self.lock, self.matches, self.reported_lines = asyncio.Lock(), set(), []
         self.watching: asyncio.Task | None = None
-        # The reason why the player is not running and is not started again.
+        # If the player is not running and is not started again, the reason for this.
         self.over = ""
-        # The addresses of other players that a launcher must not report, by name.
+        # The addresses of other players that a launcher must not report, by name. One player at a time compares its address with them.
         self.known: Callable[[], dict[str, str]] = dict
+        self.comparing = asyncio.Lock()
 
     def place(self) -> str:
         return f"{self.name}@{self.address}"
@@ -92,7 +95,8 @@ class StartedPlayer:
         return self.job is not None and not self.job.running.done()
 
     async def ready(self, match: str) -> None:
-        """Starts the player for a match, unless it is running. If the player does not start, reports that; the player is silent in the match."""
+        """If the player is not running, starts it for a match. If it does not start, reports this, and the player is silent in the
+        match."""
         async with self.lock:
             if self.command.restart == EACH_MATCH:
                 await self.end()
@@ -121,7 +125,7 @@ class StartedPlayer:
         self.watching = asyncio.create_task(self.watch(self.job))
 
     def report_down(self, match: str, why: str) -> None:
-        """Reports that the player did not start, with the last lines of its log unless they were reported before."""
+        """Reports that the player did not start, with the last lines of its log, unless these lines were already reported."""
         last, before = self.log.last_lines(), self.reported_lines
         self.reported_lines = last
         path = self.log.path
@@ -131,44 +135,58 @@ class StartedPlayer:
             self.reporter.line(f"down {match} {self.name}: | {line}")
 
     async def came_up(self) -> str:
-        """Starts the process, and waits until it answers INFO. Returns the reason if it does not, or an empty text."""
+        """Starts the process, and waits until it answers INFO. If it does not, returns the reason, otherwise an empty text."""
         command, launcher = self.command, launcher_of(self.folder, self.name, self.command)
-        job = Job(self.log.take, self.log.take, "player", END_SECONDS)
-        self.job = job
+        job = self.job = Job(self.log.take, self.log.take, command.queue_seconds, END_SECONDS)
         job.start(launcher, {"words": [program_of(self.folder, self.command.words[0]), *command.words[1:]], "player": {
             "host": None if launcher else HERE, "port": self.port, "environment": dict(command.environment),
             "directory": str(self.folder.path.absolute() / command.directory), "memory": command.memory, "processors": command.processors, "number": self.number,
         }})
-        if await job.came_up():
-            self.address, until, pause = job.player.split()[-1], time.monotonic() + command.start_seconds, FIRST_PAUSE
-            self.port = int(self.address.rpartition(":")[2])
-            # A launcher runs on a computer that may be hostile, and must not direct the messages to another player.
-            if launcher and (other := await asyncio.to_thread(self.other_there)):
-                return f"it reported the address of {other}, {self.address}"
-            while not job.running.done() and (left := until - time.monotonic()) > 0:
-                if (await run(self.referee.info_words(self.place()), seconds=left)).status == 0 and job.status is None and not job.running.done():
-                    return ""
-                await asyncio.wait([job.running], timeout=min(pause, left))
-                pause = min(2 * pause, LONGEST_PAUSE)
+        if await job.reports(job.runs) and (why := await self.answers(job)) is not None:
+            return why
         if job.running.done():
             job.running.result()
             return words_of_end(job)
-        more = " or more `memory`" if command.memory else ""
-        return f"it did not answer INFO within {command.start_seconds} s; it may need more `start_seconds`{more}"
+        what, more = "answer INFO" if job.player else "report its address", " or more `memory`" if command.memory else ""
+        return f"it did not {what} within {command.start_seconds} s; it may need more `start_seconds`{more}"
 
-    def other_there(self) -> str:
-        """Returns the name of another player that is known to be at this player's address, or an empty text."""
-        return next((name for name, address in self.known().items() if are_same(self.address, address)), "")
+    async def answers(self, job: Job) -> str | None:
+        """Waits until the player answers INFO. Returns an empty text then, the reason if its address is that of another player, or None if it has ended or
+        its time is over."""
+        until, pause = time.monotonic() + self.command.start_seconds, FIRST_PAUSE
+        if not await job.reports(job.has_player, self.command.start_seconds):
+            return None
+        self.address = job.player.split()[-1]
+        self.port = int(self.address.rpartition(":")[2])
+        if other := await self.other_there():
+            return other
+        while not job.running.done() and (left := until - time.monotonic()) > 0:
+            if (await run(self.referee.info_words(self.place()), seconds=left)).status == 0 and job.status is None and not job.running.done():
+                # Another player may have come up at this address meanwhile.
+                async with self.comparing:
+                    other = await self.other_there()
+                    self.has_answered = not other
+                return other
+            await asyncio.wait([job.running], timeout=min(pause, left))
+            pause = min(2 * pause, LONGEST_PAUSE)
+        return None
+
+    async def other_there(self) -> str:
+        """Returns an error if another player is known to be at the address that a launcher reported, or an empty text. The launcher's computer may be
+        hostile, and must not direct the messages to another player."""
+        known = self.known() if self.command.launcher else {}
+        names = await asyncio.to_thread(lambda: [name for name, address in known.items() if are_same(self.address, address)]) if known else []
+        return f"it reported the address of {names[0]}, {self.address}" if names else ""
 
     async def watch(self, job: Job) -> None:
-        """Waits until the player ends by itself. Reports the end for each match that it is playing, or once if there is none."""
+        """Waits until the player ends by itself. Reports this for each match that it is playing. If there is none, reports it once."""
         await asyncio.wait([job.running])
         words, last = self.with_restart(words_of_end(job)), "".join(f": {line}" for line in self.log.last_lines()[-1:])
         for match in [f"{match} " for match in sorted(self.matches)] or [""]:
             self.reporter.line(f"died {match}{self.name}: {words}{last}")
 
     def with_restart(self, why: str) -> str:
-        """Returns the reason why the player is not running. If the player is never restarted, this adds that to the reason."""
+        """Returns the reason why the player is not running. If the player is never restarted, the reason also says so."""
         if self.command.restart == NEVER:
             why = self.over = f"{why}, and it is not started again because of `restart = \"never\"`"
         return why
@@ -179,7 +197,7 @@ class StartedPlayer:
             self.watching.cancel()
         if self.job:
             await self.job.end()
-        self.job, self.address = None, NOWHERE
+        self.job, self.address, self.has_answered = None, NOWHERE, False
 
 
 def words_of_end(job: Job) -> str:
@@ -187,16 +205,17 @@ def words_of_end(job: Job) -> str:
 
 
 class StartedPlayers:
-    """The players of a competition that have a command. Each is started before its first match, and ended when `play` ends."""
+    """The players of a competition that have a command. Each player is started before its first match, and ended when `play` ends."""
 
     def __init__(self, folder: Folder, competition: Competition, referee: Referee, reporter: Reporter) -> None:
         self.competition = competition
-        # The addresses that were looked up for the other players. They are the same in all matches.
+        # The addresses that were looked up for the other players, and that stay the same in all matches.
         self.addresses: dict[str, str] = {}
         players = [player for player in competition.players if player.command]
         self.players = {player.name: StartedPlayer(folder, player, number, referee, reporter) for number, player in enumerate(players)}
+        comparing = asyncio.Lock()
         for player in self.players.values():
-            player.known = self.known
+            player.known, player.comparing = self.known, comparing
 
     def of(self, names: tuple[str, ...]) -> list[StartedPlayer]:
         return [self.players[name] for name in names if name in self.players]
@@ -207,8 +226,9 @@ class StartedPlayers:
         return self.addresses.get(name) or self.competition.player(name).place()
 
     def known(self) -> dict[str, str]:
-        """Returns the addresses of the players, by name, except those that launchers reported."""
-        started = {name: player.address for name, player in self.players.items() if player.is_running() and not player.command.launcher}
+        """Returns the addresses of the players, by name. That of a player with a launcher counts once the player has answered there."""
+        running = [player for player in self.players.values() if player.is_running()]
+        started = {player.name: player.address for player in running if player.has_answered or not player.command.launcher}
         return {player.name: player.address for player in self.competition.players if not player.command} | started
 
     async def ready(self, match: str, names: tuple[str, ...]) -> None:
@@ -228,7 +248,7 @@ class StartedPlayers:
 
 
 def program_of(folder: Folder, word: str) -> str:
-    """Returns a program. A path is relative to the directory of the competition, and a name is searched for in PATH."""
+    """Returns the path of a program. A path is relative to the directory of the competition. A name is searched for in PATH."""
     return str((folder.path / word).absolute()) if "/" in word else word
 
 
@@ -238,7 +258,8 @@ def launcher_of(folder: Folder, name: str, command: Command) -> list[str]:
 
 
 def mistakes_of_programs(folder: Folder, competition: Competition) -> Iterator[Mistake]:
-    """Yields a mistake for each player whose program, launcher or directory does not exist, or whose limits are above what this computer has."""
+    """Yields a mistake for each player whose program, launcher or directory does not exist, or whose limits exceed what this computer
+    has."""
     most, memory = len(os.sched_getaffinity(0)), os.sysconf("SC_PHYS_PAGES") * os.sysconf("SC_PAGE_SIZE")
     for player in competition.players:
         if not player.command:

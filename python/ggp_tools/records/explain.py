@@ -42,7 +42,7 @@ def listed(texts: Sequence[str]) -> str:
 
 
 def end_words(phase: str, cause: str | None, names: Sequence[str]) -> str:
-    """Describes a phase with its cause. If the cause has the number of a role, the name of the role follows."""
+    """Describes a phase with its cause. If the cause contains the number of a role, the name of the role is added."""
     number = (cause or "").partition(" ")[2]
     return f"phase {phase}, cause {cause or 'null'}" + (f" (the role {names[int(number)]})" if number else "")
 
@@ -58,12 +58,12 @@ WHY = {
 }
 
 
-# An error as `verify` prints it, and the lines that explain it.
+# An error in the words of `verify`, and the lines that explain it.
 Found = tuple[str, ...]
 
 
 class Replay(Match):
-    """Replays a record that has the right shape in the interpreter."""
+    """Replays a record in the interpreter. The record must have the right shape."""
 
     def __init__(self, game: Game, record: dict, names: Sequence[str]) -> None:
         super().__init__(game, record["matchId"], record["startClock"], record["playClock"], record["players"])
@@ -190,26 +190,28 @@ def explanation(word: str, game: Game, data: bytes) -> list[str]:
 
 
 def judged(program: str, words: list[str], data: bytes, count: int = 1) -> list[str | None]:
-    """Returns, for each record, the error that the referee reports, or None if the record is lawful. None of the records belongs to a call log."""
+    """Returns, for each record, the error that the referee reports, or None if the record is lawful. The data must not contain call
+    logs."""
     try:
         run = subprocess.run([program, "verify", JSON, *words], input=data, capture_output=True)
     except (OSError, ValueError) as why:
         raise Ended(f"cannot run {program}: {getattr(why, 'strerror', None) or 'its name has a NUL byte'}", 3) from None
     faults = [verdict.get("fault") for verdict in read_objects(run) or ()]
     if len(faults) != count or run.returncode != int(any(faults)):
-        raise Ended(run.stderr.decode("ascii", "replace").strip() or f"{program} gives no verdict, and its status is {run.returncode}", 3)
+        raise Ended(run.stderr.decode("ascii", "replace").strip() or f"{program} gave no verdict: it ended with status {run.returncode}", 3)
     return faults
 
 
 def read(name: str, most: int) -> bytes:
-    """Reads a file, but at most one byte more than the referee accepts."""
+    """Reads a file, but no more than one byte above the referee's limit."""
     with opened(name) as file:
         return file.read(most + 1)
 
 
 @contextlib.contextmanager
 def rules_of(asked_for: argparse.Namespace) -> Iterator[tuple[list[str], Callable[[], Game]]]:
-    """Yields the option that names the game to the referee, and a function that makes the game once the referee has accepted it."""
+    """Yields the option that names the game to the referee, and a function that makes the game; it is called after the referee has accepted
+    the rules."""
     if asked_for.countdown is not None:
         yield [f"--countdown={asked_for.countdown}"], functools.cache(lambda: Game(countdown(asked_for.countdown)))
         return
