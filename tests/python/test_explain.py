@@ -166,7 +166,7 @@ class Faults(unittest.TestCase):
             (b"\n\xff", "The text is not JSON: line 2, byte 1: it is not UTF-8."), (b"{} x", "The text is not JSON: line 1, column 4: more text follows the value."),
             (b"{}\n{}", "The text is not JSON: line 2, column 1: more text follows the value.", more), (b"{}\n0\topen m 0\topened\n", "The text is not JSON: line 2, column 1: more text follows the value.", more),
             (b"[" * 99_999, none), (b"[]", none), (b'x{"cause":1', "The text is not JSON: line 1, column 1: a value is missing."),
-            (b'{"cause":{"cause":1}', "The text is not JSON: line 1, column 21: `,` is missing.", "Another record begins at byte 10: the one before it was cut off, for example because a record was appended to an unfinished line."),
+            (b'{"cause":{"cause":1}', "The text is not JSON: line 1, column 21: `,` is missing.", "Another record begins at byte 10: the record before it was cut off, for example because a record was appended to an unfinished line."),
             (b"1} ", "The text is not JSON: line 1, column 2: more text follows the value."),
         ):
             self.assertEqual(list(explanation("json", Game(countdown(3)), text)), lines, text)
@@ -344,7 +344,7 @@ class Whole(unittest.TestCase):
             with self.subTest(at):
                 self.assertTrue(said[1:] == [begin] or whole[at:].startswith("[") or '"' not in whole[at:] or "more follows" in said[0], said)
         again = json_lines(f"{whole[:50]}{whole}".encode())
-        self.assertIn("Another record begins at byte 51: the one before it was cut off", again[1])
+        self.assertIn("Another record begins at byte 51: the record before it was cut off", again[1])
         for text in (b'{"a":\n x}', b"", b"no record", b'{"a" 1, "b": {'):
             self.assertEqual(json_lines(text)[1:], [], text)
 
