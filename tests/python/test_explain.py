@@ -41,7 +41,7 @@ FAULTS = [
     ({("phase",): "stopping"}, "end", "At the end the state is terminal, and 2 of 2 roles have an end mark.", "expected: phase finished, cause null", "found: phase stopping, cause null"),
     ({("cause",): "nolegal 1"}, "end", "At the end the state is terminal, and 2 of 2 roles have an end mark.", "expected: phase finished, cause null", "found: phase finished, cause nolegal 1 (the role blue)"),
     ({("endMarks", 1): None}, "end", "At the end the state is terminal, and 1 of 2 roles has an end mark.", "expected: phase stopping, cause null", "found: phase finished, cause null"),
-    ({("startMarks", 1): None}, "end", "At the end a START mark is missing after 2 turns, and 2 of 2 roles have an end mark.", "expected: other marks or turns: no phase has these", "found: phase finished, cause null"),
+    ({("startMarks", 1): None}, "end", "At the end a START mark is missing after 2 turns, and 2 of 2 roles have an end mark.", "expected: other marks or turns, because no phase has these", "found: phase finished, cause null"),
     ({("strikes",): 256}, "shape strikes", "expected in strikes: a whole number from 0 to 255, because the record has version 2", "found: 256"),
     ({("playClock",): "x" * 99}, "shape playClock", "expected in playClock: a whole number of seconds from 1 to 86,400", f'found: "{"x" * 79}..'),
     ({("endMarks",): "gone"}, "shape endMarks", 'expected in endMarks: for each role a mark: null, "", "TO" or "CE"', "the roles are: red, blue", "found: no such key"),
@@ -166,7 +166,7 @@ class Faults(unittest.TestCase):
             (b"\n\xff", "The text is not JSON: line 2, byte 1: it is not UTF-8."), (b"{} x", "The text is not JSON: line 1, column 4: more text follows the value."),
             (b"{}\n{}", "The text is not JSON: line 2, column 1: more text follows the value.", more), (b"{}\n0\topen m 0\topened\n", "The text is not JSON: line 2, column 1: more text follows the value.", more),
             (b"[" * 99_999, none), (b"[]", none), (b'x{"cause":1', "The text is not JSON: line 1, column 1: a value is missing."),
-            (b'{"cause":{"cause":1}', "The text is not JSON: line 1, column 21: `,` is missing.", "Another record begins at byte 10: the one before it was cut off, for example because a record was appended to an unfinished line."),
+            (b'{"cause":{"cause":1}', "The text is not JSON: line 1, column 21: `,` is missing.", "Another record begins at byte 10: the record before it was cut off, for example because a record was appended to an unfinished line."),
             (b"1} ", "The text is not JSON: line 1, column 2: more text follows the value."),
         ):
             self.assertEqual(list(explanation("json", Game(countdown(3)), text)), lines, text)
