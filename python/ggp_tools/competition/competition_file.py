@@ -520,7 +520,7 @@ def read_competition(data: bytes) -> Competition:
     found = root.read(Competition, **clocks, form=form_of(root), games=games_of(root, clocks), players=players_of(root), lines=root.lines)
     kind = found.form.kind
     if "order" in root.table and kind in ROUND_KINDS:
-        root.mistake("order", f"the kind {kind} has its own order")
+        root.mistake("order", f"the kind {kind} determines the order, so this key is not allowed")
     for key in ("absent_rounds", "pause") if kind not in ROUND_KINDS else ():
         if key in root.table:
             root.mistake(key, f"only the kinds {' and '.join(ROUND_KINDS)} have this key")
