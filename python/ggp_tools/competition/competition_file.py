@@ -299,8 +299,8 @@ class Game:
 
 @dataclass(frozen=True)
 class Command:
-    """How the competition starts a player. In the command and in the environment, `{port}` is replaced with the port of the player. Without a
-    launcher, the player runs on this computer. A `memory` or `processors` of 0 sets no limit."""
+    """How the competition starts a player. In the command and in the environment, `{port}` is replaced with the port of the player. Without
+    a launcher, the player runs on this computer. If `memory` or `processors` is 0, there is no such limit."""
 
     words: tuple[str, ...] = read_by(Section.words, "the program, then its arguments", key="command")
     launcher: tuple[str, ...] = read_by(Section.words, RUNS_ELSEWHERE, False)
