@@ -48,7 +48,7 @@ def toolchain_version():
 
 
 def require_toolchain():
-    """Ends the tool with one line if the toolchain is missing or has another version. Returns the output of `rt version`."""
+    """Returns the output of `rt version`. If the toolchain is missing or has another version, prints one line and exits."""
     version = toolchain_version()
     error = toolchain_error(version)
     if error:

@@ -59,6 +59,7 @@ NEEDS = (
     Need("groff-base", ("groff",), "formats the pages of the manual"),
     Need("zsh", ("zsh",), "reads the completions for zsh"),
     Need("jq", ("jq",), "reads the log of a season"),
+    Need("valgrind", ("valgrind",), "counts the instructions of the program"),
     Need("python3-pytest-cov", (f"{MODULES}/pytest_cov",), "measures the coverage of the Python tests", is_optional=True),
     Need("parallel", ("parallel",), "measurements (bench)", is_optional=True),
     Need("g++", ("g++",), "measurements (bench)", is_optional=True),

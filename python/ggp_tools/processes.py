@@ -1,25 +1,41 @@
 """Runs other programs and waits until they end. Describes how they ended."""
 
+import contextlib
 import contextvars
 import os
+import pathlib
 import signal
 import subprocess
-from collections.abc import Sequence
+import sys
+from collections.abc import Iterator, Sequence
+
+from ggp_tools.competition import guard
 
 # These arguments, followed by the id of this process and a command, run the command, and kill it when this process ends. If this process
 # has already ended, the command does not run.
 WITH_PARENT = ("setpriv", "--pdeathsig", "KILL", "--", "sh", "-c", 'test "$PPID" = "$0" && exec "$@"')
-# If true, Ctrl-C at the terminal does not reach the programs that this process runs, because it must finish its work first. If this process
-# ends or is killed, the programs are killed too.
-APART = contextvars.ContextVar("APART", default=False)
+# The environment of the programs that end with this process, with their mark, or None.
+APART: contextvars.ContextVar[dict[str, str] | None] = contextvars.ContextVar("APART", default=None)
+
+
+@contextlib.contextmanager
+def apart(mark: str) -> Iterator[None]:
+    """While the block runs, programs get this mark, and Ctrl-C at the terminal does not reach them, because this process finishes its work first. They end
+    with this process, even if it is killed. Programs that an earlier process with this mark has left are ended first."""
+    guard.end_marked(mark)
+    words = [sys.executable, "-I", str(pathlib.Path(guard.__file__).absolute()), mark]
+    with subprocess.Popen(words, stdin=subprocess.PIPE, stdout=subprocess.DEVNULL, stderr=subprocess.DEVNULL, start_new_session=True):
+        token = APART.set({**os.environ, guard.MARK: mark})
+        try:
+            yield
+        finally:
+            APART.reset(token)
 
 
 def run_whole(words: Sequence[str], **more: object) -> subprocess.CompletedProcess:
-    """Runs a program until it ends, and returns its output."""
-    before = (*WITH_PARENT, str(os.getpid())) if APART.get() else ()
-    ran = subprocess.run([*before, *words], capture_output=True, start_new_session=APART.get(), **more)
-    ran.args = words
-    return ran
+    """Runs a program to its end, and returns its output."""
+    environment = {**(APART.get() or os.environ), **more.pop("env", {})}
+    return subprocess.run(words, capture_output=True, start_new_session=APART.get() is not None, env=environment, **more)
 
 
 def ended_words(status: int) -> str:

@@ -103,8 +103,8 @@ class BadInput(InFolder):
         game, referee = self.folder / "game.kif", stand_in(roles=lambda *_: ("robot",))
         buttons = (GAMES / "buttons.kif").read_text()
         for text, words in (
-            ("(role robot)", "no match can begin: each one is aborted at the start with `nolegal robot`"),
-            ("(role robot) (<= terminal (role robot))", "no match can begin: each one is aborted at the start with `nogoal robot`"),
+            ("(role robot)", "none of its matches can begin: each is aborted at the start with `nolegal robot`"),
+            ("(role robot) (<= terminal (role robot))", "none of its matches can begin: each is aborted at the start with `nogoal robot`"),
             (buttons.replace("(<= terminal solved", "(=> terminal solved").replace("robot 0", "robto 0"), "all of 5 random matches were aborted, with `nogoal robot`"),
             (buttons, ""),
         ):
@@ -119,7 +119,7 @@ class BadInput(InFolder):
             (self.folder / "schedule.tsv").unlink()
 
     def test_a_game_whose_matches_are_long_is_planned_and_told(self):
-        for fault, words in ((TimeIsOver(), "no random match ended within 10 s"), (RecursionError(), "it was not tested: its rules depend on one another too deeply")):
+        for fault, words in ((TimeIsOver(), "none of its random matches ended within 10 s"), (RecursionError(), "it was not tested: its rules depend on one another too deeply")):
             with mock.patch("ggp_tools.descriptions.random_matches.RandomMatches.play", side_effect=fault):
                 why, note = trial(b"(role a)", None, "game")
             self.assertIsNone(why)
@@ -175,6 +175,18 @@ class BadInput(InFolder):
         schedule = self.folder / "schedule.tsv"
         schedule.write_text(schedule.read_text().replace("ann bob", "bob ann"))
         self.assert_refused("schedule.tsv does not agree with competition.toml", "table")
+
+    def test_a_schedule_that_is_too_long_is_refused_at_its_first_row_too_many(self):
+        self.plan([("ann", "h:1"), ("bob", "h:2")], [("countdown", GAMES / "countdown.kif")])
+        schedule = self.folder / "schedule.tsv"
+        rows = schedule.read_bytes()
+        for more, number in ((b"x\n" * 200_000, 100_002), (b"x" * 200_000, rows.count(b"\n") + 1)):
+            schedule.write_bytes(rows + more)
+            words = "expected at most 100,000 matches, each in a row of less than 131,072 bytes\n"
+            self.assert_refused(f"schedule.tsv:{number}: {words}", "table")
+        # A row that is too long is not read to its end.
+        os.truncate(schedule, 1 << 40)
+        self.assert_refused(words, "table")
 
     def test_the_mistakes_of_all_descriptions_are_reported_together(self):
         for number, (text, _) in enumerate(DESCRIPTIONS):

@@ -219,12 +219,12 @@ class Accounts(unittest.TestCase):
         for call in calls:
             for at in range(1, len(CALL_LINES) + 1):
                 shown = call.decode().strip("\n").replace("\t", " ")
-                words = f"line {at + 1} of its call log is not a call that a referee makes at this point: {shown}"
+                words = f"line {at + 1} of its call log is not a call that a referee would make at this point: {shown}"
                 self.assertEqual(self.fault(*CALL_LINES[:at], call, *CALL_LINES[at:]), words)
 
     def test_each_line_is_needed_where_another_follows_from_it(self):
         for at in (1, 2, 3, 6, 7, 8, 9, 10, 11, 12):
-            self.assertRegex(self.fault(*CALL_LINES[:at], *CALL_LINES[at + 1 :]), r"line \d+ of its call log is not a call that a referee makes at this point: ")
+            self.assertRegex(self.fault(*CALL_LINES[:at], *CALL_LINES[at + 1 :]), r"line \d+ of its call log is not a call that a referee would make at this point: ")
 
     def test_a_role_that_waits_asks_as_often_as_its_clock_allows(self):
         head, most = CALL_LINES[0].replace(b"0 5 5", b"0 7 6"), MOST_HOLDS + 2 * 2
@@ -232,7 +232,7 @@ class Accounts(unittest.TestCase):
             before, after = (head, *CALL_LINES[1:at]), [line for line in CALL_LINES[at:] if line != hold]
             self.assertIsNone(self.fault(*before, *[hold] * (most + clock), *after))
             fault = self.fault(*before, *[hold] * (most + clock + 1), *after)
-            self.assertRegex(fault, f"line {at + most + clock + 1} of its call log is not a call that a referee makes at this point: . next cup-001 . hold")
+            self.assertRegex(fault, f"line {at + most + clock + 1} of its call log is not a call that a referee would make at this point: . next cup-001 . hold")
 
     def test_a_history_has_a_greatest_length(self):
         with mock.patch.object(call_logs, "MOST_CALLS", len(CALL_LINES)):

@@ -3,14 +3,16 @@
 import asyncio
 import gc
 import os
+import subprocess
 import sys
 
 import pytest
 from ggp_tools.competition import children, jobs
 from ggp_tools.competition.children import run
+from ggp_tools.competition.guard import marked
 from ggp_tools.competition.jobs import Job, Lost
-from ggp_tools.processes import ended_words
-from support import command_of, wait_until
+from ggp_tools.processes import apart, ended_words
+from support import TOP, command_of, wait_until
 
 NODE = "import sys\nsys.stderr.write('ggp_competition: node n1\\n')\nsys.stderr.flush()\n"
 CLEAR = "bad \x1b]0;title\x07 words \x9b31m"
@@ -117,7 +119,7 @@ def test_a_job_that_runs_gets_a_byte_now_and_then_and_its_task(monkeypatch):
 
     async def go():
         job = await begun(script)
-        assert await job.came_up()
+        assert await job.reports(job.runs)
         job.begin({"words": ["one", "two words"]})
         await job.running
         return job
@@ -151,7 +153,7 @@ def test_a_job_that_is_ended_is_ended_with_what_it_has_started(hears):
         job.has_begun, job.end_seconds = True, 600 if hears else 0.2
         script = f"sleep 600 & echo ggp_competition: node $! >&2; {'cat; kill $!' if hears else 'wait'}"
         job.start(["bash", "-c", script])
-        assert await job.came_up()
+        assert await job.reports(job.runs)
         await job.end()
         return job
 
@@ -176,9 +178,39 @@ def test_a_process_that_ends_without_a_word():
     assert asyncio.run(run(["true"])).message() == "it ended with status 0, without a message"
 
 
-def test_a_process_begun_as_this_one_ends_does_not_run(monkeypatch):
-    monkeypatch.setattr(os, "getpid", lambda: 0)
-    assert asyncio.run(run(["echo", "one"])).output == b""
+# Starts programs, prints their processes and that of the guard, and is killed at once.
+KILLED = """
+import os, sys
+from ggp_tools.competition.children import spawned
+from ggp_tools.processes import apart
+
+with apart(sys.argv[1]):
+    children = open(f"/proc/self/task/{os.getpid()}/children").read()
+    print(children, *(spawned(["sh", "-c", "setsid sleep 600 & sleep 600"], 2, 2) for _ in range(5)), flush=True)
+    for process in map(int, sys.argv[2:] and children.split()):
+        os.kill(process, 9)
+    os.kill(os.getpid(), 9)
+"""
+
+
+def killed(mark, *more):
+    """Runs the script above, and returns the processes."""
+    words = [sys.executable, "-c", KILLED, mark, *more]
+    return subprocess.run(words, stdout=subprocess.PIPE, text=True, env={**os.environ, "PYTHONPATH": str(TOP / "python")}).stdout.split()
+
+
+def test_programs_end_with_this_process_even_if_it_is_killed(tmp_path):
+    processes = killed(str(tmp_path))
+    assert len(processes) == 6
+    wait_until(lambda: not any(map(command_of, processes)) and not marked(str(tmp_path)))
+
+
+def test_programs_that_a_killed_process_and_its_guard_have_left_are_ended_first(tmp_path):
+    _, *processes = killed(str(tmp_path), "with the guard")
+    assert all(map(command_of, processes))
+    assert marked(f"{tmp_path}/other") == []
+    with apart(str(tmp_path)):
+        assert not any(map(command_of, processes)) and marked(str(tmp_path)) == []
 
 
 def test_a_command_that_is_not_there_is_an_error_of_its_file():

@@ -41,7 +41,7 @@ FAULTS = [
     ({("phase",): "stopping"}, "end", "At the end the state is terminal, and 2 of 2 roles have an end mark.", "expected: phase finished, cause null", "found: phase stopping, cause null"),
     ({("cause",): "nolegal 1"}, "end", "At the end the state is terminal, and 2 of 2 roles have an end mark.", "expected: phase finished, cause null", "found: phase finished, cause nolegal 1 (the role blue)"),
     ({("endMarks", 1): None}, "end", "At the end the state is terminal, and 1 of 2 roles has an end mark.", "expected: phase stopping, cause null", "found: phase finished, cause null"),
-    ({("startMarks", 1): None}, "end", "At the end a START mark is missing after 2 turns, and 2 of 2 roles have an end mark.", "expected: other marks or turns, because no phase has these", "found: phase finished, cause null"),
+    ({("startMarks", 1): None}, "end", "At the end a START mark is missing after 2 turns, and 2 of 2 roles have an end mark.", "expected: other marks or turns: no phase allows these", "found: phase finished, cause null"),
     ({("strikes",): 256}, "shape strikes", "expected in strikes: a whole number from 0 to 255, because the record has version 2", "found: 256"),
     ({("playClock",): "x" * 99}, "shape playClock", "expected in playClock: a whole number of seconds from 1 to 86,400", f'found: "{"x" * 79}..'),
     ({("endMarks",): "gone"}, "shape endMarks", 'expected in endMarks: for each role a mark: null, "", "TO" or "CE"', "the roles are: red, blue", "found: no such key"),

@@ -28,7 +28,7 @@ SOUND = """(role ann) (role bob)
 (<= terminal over)
 (<= (goal ann 100) over) (<= (goal bob 0) over)
 """
-# Replacements in the description, or additions at its end, each with the suspicious parts that it causes.
+# Changes of the description (replacements, or additions at its end), each with the suspicious sentences that `game` then reports.
 CHANGES = [
     ("(init", "(initial", [
         "line 2, column 1: `initial` is not a GDL keyword, and the game does not use it; did you mean `init`?: (initial (step 1))",
@@ -329,7 +329,7 @@ class Game(InFolder):
         (self.folder / "gringo").write_text("#!/bin/bash\nkill -9 $$\n")
         status, out, said = run(self.folder, "game", "game.kif", env={**os.environ, "PATH": path})
         self.assertEqual((status, out), (3, ""))
-        self.assertRegex(said, "^ggp_competition: ggp-instantiate gave no verdict for game.kif: .*gringo took .*, or was killed\n$")
+        self.assertRegex(said, "^ggp_competition: ggp-instantiate gave no verdict for game.kif: .*gringo ran out of memory: .*, or it was killed\n$")
         self.assertEqual(run(self.folder, "game", "game.kif", env={**os.environ, "PATH": "/nowhere"}), (
             3, "", "ggp_competition: game.kif can't be grounded: the grounder gringo is not installed\n",
         ))

@@ -97,6 +97,16 @@ class Growth(unittest.TestCase):
         ):
             self.assertEqual(str(raised(Misfit, self.grown, competition(2), again=again)), words)
 
+    def test_a_player_that_has_withdrawn_leaves_matches_out(self):
+        before = competition(3, form='kind = "schedule"\nlines = ["two p0 p1", "two p1 p2", "two p2 p0"]')
+        players = before.players[0], replace(before.players[1], withdrawn="why"), before.players[2]
+        history = History(((3, before),), (Again("cup-004", "cup-001", "x"),))
+        # A match that is replaced stays so. Its rematch has a result too.
+        for results, out in (("keep", ["cup-002"]), ("void", ["cup-002", "cup-004"])):
+            after = replace(before, players=players, withdrawn_results=results)
+            found = grown(history, after, ROLES, lambda match: match.id in ("cup-001", "cup-004") or None).matches
+            self.assertEqual([(match.id, match.withdrawn) for match in found if match.withdrawn], [(match, "p1 has withdrawn: why") for match in out])
+
     def test_the_number_of_matches_before_is_looked_at(self):
         why = raised(Misfit, grown, History(((5, competition(2)),)), competition(3), ROLES, nothing_known)
         self.assertEqual(str(why), "earlier/5.toml was replaced after 4 planned matches, not after 5 as its name says")

@@ -88,13 +88,13 @@ def test_a_referee_ends_with_its_job():
 # ---- competitions
 
 class Launched(InFolder):
-    def planned(self, launcher, count=1, slots=2, kind="good", head=HEAD):
+    def planned(self, launcher, count=1, slots=2, kind="good", head=HEAD, more=""):
         self.players = [TestPlayer(f"p{at}", kind, at, most=count) for at in range(2)]
         form = f'kind = "schedule"\nlines = {json.dumps(["countdown p0 p1"] * count)}'
         players = [(player.name, player.place(), f"concurrent = {count}") for player in self.players]
         # In these tests, a launcher is a script. Its arguments are the id of the match and then the command of the job.
         path = script(self.folder / "launch", f"#!/bin/bash\nmatch=$1 folder={self.folder}\nshift\n{launcher}\n")
-        head = f'{head}launcher = {{command = ["{path}", "{{match}}"], slots = {slots}}}\n'
+        head = f'{head}launcher = {{command = ["{path}", "{{match}}"], slots = {slots}{more}}}\n'
         self.schedule = self.plan(players, [("countdown", GAMES / "countdown.kif")], form, head)
 
     def started_with(self, more, path):
@@ -141,6 +141,13 @@ class Launched(InFolder):
         self.assertEqual((status, lines(out, "lost"), lines(out, "no")), (1, [f"lost cup-001 on no node: {words}"] * 2, [f"no record cup-001: its jobs were lost: {words}"]), out)
         self.assertEqual([player.begun for player in self.players], [[], []])
         self.assertEqual(list((self.folder / "open").iterdir()), [])
+
+    def test_a_launcher_that_never_runs_its_job_is_given_up(self):
+        self.planned("echo queued >&2; exec sleep 6000", more=", queue_seconds = 1")
+        status, out, _ = run(self.folder, "play")
+        words = "its launcher did not run it within 1 s; it may need more `queue_seconds`: queued"
+        self.assertEqual((status, lines(out, "lost"), lines(out, "no")), (1, [f"lost cup-001 on no node: {words}"] * 2, [f"no record cup-001: its jobs were lost: {words}"]), out)
+        self.assertEqual([player.begun for player in self.players], [[], []])
 
     def test_a_job_that_is_lost_with_its_node_is_begun_again(self):
         # The shell's own messages about the killed job go to a file.

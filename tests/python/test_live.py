@@ -233,6 +233,16 @@ class Lines(InRoom):
         look(reader)
         self.assertEqual(reader.results, {})
 
+    def test_a_match_with_a_result_is_not_open(self):
+        room, reader = begin(self.plan, self.match, started(self.match)).parent, self.reader()
+        look(reader)
+        end(self.plan, self.match, record_of(self.match, [["(take 1)", "noop"]], [["", ""]], [0, 100]))
+        # `play` removes the directory only after it has written the record.
+        room.mkdir()
+        (room / "checking").touch()
+        look(reader)
+        self.assertEqual((list(reader.open), list(reader.results), list(reader.ended), len(reader.waiting())), ([], [self.match.id], [self.match.id], 5))
+
     def test_what_comes_into_a_folder_without_changing_its_time_is_seen(self):
         first, second = self.plan.matches[:2]
         room, moment = self.plan.folder.open / self.plan.matches[2].id, time.time()

@@ -10,8 +10,9 @@ import types
 import unittest
 from unittest import mock
 
-from ggp_tools.competition import open_match
+from ggp_tools.competition import checking, open_match
 from ggp_tools.competition.children import Done
+from ggp_tools.competition.competition_file import Launcher
 from ggp_tools.competition.files import Folder
 from ggp_tools.competition.jobs import Lost
 from ggp_tools.competition.open_match import OpenMatch, leave_players
@@ -60,8 +61,8 @@ class WithMatch(unittest.TestCase):
         self.meanwhile = lambda name: None
         self.enterContext(mock.patch.object(open_match, "run", self.run_process))
         self.description, self.held, self.described = (None, None), "the same: 2 turns", []
-        self.enterContext(mock.patch.object(open_match, "description_of", lambda plan, game: self.described.append((plan, game.name)) or self.description))
-        self.enterContext(mock.patch.object(open_match, "comparisons", self.hold))
+        self.enterContext(mock.patch.object(checking, "description_of", lambda plan, game: self.described.append((plan, game.name)) or self.description))
+        self.enterContext(mock.patch.object(checking, "comparisons", self.hold))
         self.begin(self.HEAD)
 
     async def run_process(self, words, seconds=None):
@@ -91,6 +92,7 @@ class WithMatch(unittest.TestCase):
         players, news = StartedPlayers(folder, competition, None, self.reporter), types.SimpleNamespace(set=lambda: self.left.append(self.open.stage))
         playing = types.SimpleNamespace(
             plan=self.plan, referee=self.referee, slots=self.slots, reporter=self.reporter, launcher=None, players=players, may_begin=lambda match: self.may_begin, news=news,
+            checking=checking.Checking(self.plan, self.referee),
         )
         self.slots.take(self.match)
         self.open = OpenMatch(playing, self.match)
@@ -175,7 +177,7 @@ class Whole(WithMatch):
             for error in (asyncio.CancelledError, OSError):
                 self.begin(self.HEAD)
                 self.laid_down |= {"ann@h:1": READY, **({} if name == "checked" else {name: (error, b"", "")})}
-                with mock.patch.object(open_match, "check_match", side_effect=error), self.assertRaises(BaseException) as raised:
+                with mock.patch.object(checking, "keep_if_right", side_effect=error), self.assertRaises(BaseException) as raised:
                     self.go()
                 errors = getattr(raised.exception, "exceptions", [raised.exception])
                 self.assertEqual(([type(found) for found in errors], self.open.is_broken, self.open.directory.exists(), self.slots.free), ([error], is_broken, is_broken, {"ann": 1, "bob": 1}))
@@ -360,7 +362,7 @@ class Checking(WithMatch):
             reports.append((match.id, files))
             return "report-cup-001.tar.gz"
 
-        with mock.patch.object(open_match, "write_report", report):
+        with mock.patch.object(checking, "write_report", report):
             why, files = self.checked()
         self.assertEqual(why, f"compared with the description of heap, it differs: turn 1; it is kept as {self.plan.folder.records}/cup-001.json.differs; please report this, and include report-cup-001.tar.gz")
         self.assertEqual((files, self.open.stops_game), (self.kept(".differs"), True))
@@ -378,6 +380,7 @@ class Jobs(WithMatch):
     def setUp(self):
         super().setUp()
         self.open.directory.mkdir(parents=True)
+        self.open.playing.launcher = Launcher(("x",), 1)
         self.job = open_match.MatchJob(self.open)
 
     def test_events_go_to_the_log_and_other_lines_do_not(self):

@@ -380,7 +380,7 @@ class Play(InFolder):
         changes = [
             ("records/cup-001.json", lambda text: text.replace(b"(take 1)", b"(take 2)", 1), "not lawful"),
             ("records/cup-002.json", lambda text: text[:-20], "not one line"),
-            ("accounts/cup-003.txt", lambda text: text.replace(b"taken", b"over", 1), "is not a call that a referee makes at this point"),
+            ("accounts/cup-003.txt", lambda text: text.replace(b"taken", b"over", 1), "is not a call that a referee would make at this point"),
             ("accounts/cup-004.txt", None, "its call log is missing"),
             ("records/cup-005.json", lambda _: (self.folder / "records/cup-006.json").read_bytes(), "does not reproduce its record"),
         ]

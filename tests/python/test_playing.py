@@ -423,6 +423,7 @@ class Before(WithMatches):
 
     def test_what_was_not_begun_is_missing(self):
         def interrupt(match):
+            match.stage = "playing"
             self.playing.interrupt(1)
             won(match)
 

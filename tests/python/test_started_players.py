@@ -249,7 +249,7 @@ async def take(data):
     print(data.decode(), end="", flush=True)
 
 async def play():
-    job = Job(take, take, "player")
+    job = Job(take, take)
     limits = {"memory": 0, "processors": 0, "number": 0}
     words = ["sh", "-c", "setsid sleep 600 & echo $!; (setsid env -i sleep 600 & echo $!); echo $$; exec sleep 600"]
     job.start([], {"words": words, "player": {"host": "", "port": 0, "environment": {}, "directory": "/", **limits}})
@@ -275,10 +275,10 @@ def test_a_player_that_forks_without_end_is_ended(tmp_path):
 
 # ---- launchers
 
-def launched(room, words, launcher, program=None, info=ANSWERS):
+def launched(room, words, launcher, program=None, info=ANSWERS, **more):
     """Returns a player with a launcher, which is a script on this computer."""
     path = script(room / "launch", f"#!/bin/bash\n{launcher}\n")
-    return player(room, words, info, launcher=(program or str(path), "{player}"))
+    return player(room, words, info, launcher=(program or str(path), "{player}"), **more)
 
 
 def test_a_launcher_runs_the_player_and_reports_where(tmp_path, monkeypatch):
@@ -334,6 +334,58 @@ def test_a_launcher_may_not_report_the_address_of_another_player(tmp_path):
     assert ann.reporter.lines[0].startswith("down cup-001 ann: it reported the address of bob, 127.0.0.1:9150; ")
     started.players["cid"].job, started.players["cid"].address = types.SimpleNamespace(running=asyncio.Future(loop=asyncio.new_event_loop())), "127.0.0.1:9150"
     assert started.known() == {"bob": address, "cid": "127.0.0.1:9150"}
+
+
+@pytest.mark.parametrize(("launcher", "key", "why"), [
+    ("echo queued >&2; exec sleep 600", "queue_seconds", "its launcher did not run it"),
+    ("echo queued >&2; echo 'ggp_competition: node n1' >&2; exec cat > /dev/null", "start_seconds", "it did not report its address"),
+])
+def test_a_launcher_that_never_reports_the_player_is_given_up(tmp_path, launcher, key, why):
+    ann = launched(tmp_path, "exec sleep 600", launcher, **{key: 1})
+    assert run_for(ann, "cup-001") == [None]
+    assert ann.reporter.lines == [f"down cup-001 ann: {why} within 1 s; it may need more `{key}`; the end of {ann.log.path}:", "down cup-001 ann: | queued"]
+
+
+def launched_at_one_address(room, info=ANSWERS):
+    """Returns two players whose launchers report the same address."""
+    ann = launched(room, "exec sleep 600", "echo 'ggp_competition: player 1 127.0.0.1:9150' >&2; exec cat", info=info)
+    players = [Player(name, "", 1, 1, ann.command) for name in ("ann", "bob")]
+    return StartedPlayers(ann.folder, types.SimpleNamespace(players=players), ann.referee, ann.reporter)
+
+
+@pytest.mark.parametrize("at_once", [True, False])
+def test_only_one_of_two_launched_players_at_one_address_is_used(tmp_path, at_once):
+    both = launched_at_one_address(tmp_path)
+
+    async def play():
+        for names in (("ann", "bob"),) if at_once else (("ann",), ("bob",)):
+            await both.ready("cup-001", names)
+        running = [name for name, player in both.players.items() if player.is_running()]
+        await both.end()
+        return running
+
+    one, = asyncio.run(play())
+    other = "bob" if one == "ann" else "ann"
+    assert both.players[one].reporter.lines[0].startswith(f"down cup-001 {other}: it reported the address of {one}, 127.0.0.1:9150; ")
+    assert at_once or one == "ann"
+    assert both.known() == {}
+
+
+def test_a_launched_player_that_does_not_answer_keeps_its_address_from_no_other(tmp_path):
+    both = launched_at_one_address(tmp_path, SILENT)
+
+    async def play():
+        silent = asyncio.create_task(both.ready("cup-001", ("ann",)))
+        while both.players["ann"].address != "127.0.0.1:9150":
+            await asyncio.sleep(0.01)
+        both.players["bob"].referee = types.SimpleNamespace(info_words=lambda place: ANSWERS)
+        await both.ready("cup-001", ("bob",))
+        silent.cancel()
+        running = both.players["bob"].is_running()
+        await both.end()
+        return running
+
+    assert asyncio.run(play())
 
 
 def test_a_launched_player_whose_node_is_lost_is_reported(tmp_path, monkeypatch):
@@ -466,12 +518,19 @@ class Started(InFolder):
 
     def planned(self, *more, lines=("countdown ann bob",) * 2):
         players = "".join(f'\n[[players]]\nname = "{name}"\ncommand = ["{TOP}/examples/players/player.py", "{{port}}", "1"]\nstart_seconds = 600\n' for name in ("ann", "bob"))
-        text = toml([("ann", "h:1")], [("countdown", GAMES / "countdown.kif")], f'kind = "schedule"\nlines = {json.dumps(list(lines))}', self.HEAD)
+        games = [(name, GAMES / f"{name}.kif") for name in dict.fromkeys(line.split()[0] for line in lines)]
+        text = toml([("ann", "h:1")], games, f'kind = "schedule"\nlines = {json.dumps(list(lines))}', self.HEAD)
         text = text.replace(text[text.index("[[players]]"):], players + "\n".join(more))
         (self.folder / "competition.toml").write_text(text)
         status, out, said = run(self.folder, "plan")
         self.assertEqual((status, said), (0, ""), out)
         return [line.split("\t") for line in (self.folder / "schedule.tsv").read_text().splitlines()[1:]]
+
+    def launch(self, launcher, *keys):
+        """Gives the first player a launcher, and plans again."""
+        path, file = script(self.folder / "launch", f"#!/bin/bash\n{launcher}\n"), self.folder / "competition.toml"
+        file.write_text(file.read_text().replace("start_seconds = 600\n", "\n".join([f'launcher = ["{path}"]', *keys, ""]), 1))
+        self.assertEqual(run(self.folder, "plan")[0], 0)
 
     def processes(self):
         """Returns the players that were started so far."""
@@ -523,6 +582,24 @@ class Started(InFolder):
         self.assertEqual(status, 1, out)
         self.assertRegex(out, r"down cup-001 ann: it ended with status 2; the end of players/ann.log:\ndown cup-001 ann: \| usage: ")
         self.assertIn("missing cup-001: ann is silent\n", out)
+
+    def test_a_launcher_that_hangs_holds_up_no_other_match(self):
+        self.planned(lines=["buttons ann", "buttons bob"])
+        self.launch("echo queued >&2; exec sleep 3600", "queue_seconds = 1")
+        status, out, said = run(self.folder, "play")
+        self.assertEqual((status, said), (1, ""))
+        self.assertIn("down cup-001 ann: its launcher did not run it within 1 s; it may need more `queue_seconds`; the end of players/ann.log", out)
+        self.assertEqual(out.splitlines()[-2:], ["missing cup-001: ann is silent", "1 of 2 matches have a lawful record"])
+
+    def test_an_interrupt_does_not_wait_for_a_launcher(self):
+        self.planned(lines=["buttons ann"])
+        os.mkfifo(self.folder / "asked")
+        self.launch(f"echo asked > {self.folder}/asked; exec sleep 3600")
+        playing = start(self.folder, "play")
+        self.assertEqual((self.folder / "asked").read_text(), "asked\n")
+        playing.send_signal(signal.SIGINT)
+        out, said = playing.communicate(timeout=600)
+        self.assertEqual((playing.returncode, said, out.splitlines()[-2:]), (1, "", ["missing cup-001: not begun", "0 of 1 matches have a lawful record"]))
 
     def test_try(self):
         self.planned()

@@ -110,7 +110,7 @@ def fault_of_account(account: bytes) -> str | None:
     for number, text in enumerate(lines, 2):
         if number > MOST_CALLS or not asked.is_next(text):
             named = MATCH.match(text)
-            why = "belongs to another match" if named and named[1] != opening[2] else "is not a call that a referee makes at this point"
+            why = "belongs to another match" if named and named[1] != opening[2] else "is not a call that a referee would make at this point"
             return f"line {number} of its call log {why}: {shown(text)}"
     return None if len(asked.over) == asked.roles else f"its call log ends after line {number}, before each role's part is over"
 

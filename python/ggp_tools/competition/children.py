@@ -8,19 +8,20 @@ import os
 import shutil
 import signal
 import time
-from collections.abc import AsyncIterator
+from collections.abc import AsyncIterator, Callable
 from dataclasses import dataclass
 
 from ggp_tools.printable import message_lines
-from ggp_tools.processes import WITH_PARENT, ended_words
+from ggp_tools.processes import APART, WITH_PARENT, ended_words
 from ggp_tools.referee import Referee
 
 MOST_AT_ONCE = 1 << 16
 # ABORT is sent to at most this many players at the same time.
 MOST_ABORTS = 1_024
-# A process may reach its time limit and still seem to be running. Then it has SOON more seconds to send output. If it has ended, its output
-# may take LATE more seconds to arrive.
-SOON, LATE = 0.1, 10
+# After its time limit, a process has this many more seconds, because this process may be late.
+SOON = 0.1
+# Python ignores these signals, and other programs must not.
+NOT_IGNORED = signal.SIGPIPE, signal.SIGXFSZ
 
 
 class Watched(asyncio.subprocess.SubprocessStreamProtocol):
@@ -41,9 +42,9 @@ class Watched(asyncio.subprocess.SubprocessStreamProtocol):
 
 @contextlib.asynccontextmanager
 async def started(words: list[str], ends_itself: bool = False) -> AsyncIterator[tuple[asyncio.subprocess.Process, asyncio.Event]]:
-    """Starts a process, and yields it with an event that is set when it has ended. On exit, the started process and its group are killed.
-    If this process ends, the started process is killed too, except with `ends_itself`, which means that it then ends by itself. Ctrl-C at
-    the terminal does not reach the started process."""
+    """Starts a job, and yields it with an event that is set when it has ended. On exit, the started process and its group are killed. If this process ends,
+    the started process is killed too, unless `ends_itself` says that the started process then ends by itself. Ctrl-C at the terminal does not reach the
+    started process."""
     loop, before = asyncio.get_running_loop(), () if ends_itself else (*WITH_PARENT, str(os.getpid()))
     if not shutil.which(words[0]):
         raise FileNotFoundError(errno.ENOENT, os.strerror(errno.ENOENT), words[0])
@@ -79,20 +80,52 @@ class Done:
         return (message_lines(self.errors) or [f"{ended_words(self.status)}, without a message"])[-1]
 
 
+def spawned(words: list[str], *outputs: int) -> int:
+    """Starts a program without input in a group of its own, with these outputs. Returns the number of its process."""
+    streams = [(os.POSIX_SPAWN_OPEN, 0, os.devnull, os.O_RDONLY, 0), *((os.POSIX_SPAWN_DUP2, file, at) for at, file in enumerate(outputs, 1))]
+    return os.posix_spawnp(words[0], words, APART.get() or os.environ, file_actions=streams, setsid=True, setsigdef=NOT_IGNORED)
+
+
+async def status_of(process: int, seconds: float | None) -> int | None:
+    """Waits until a process has ended, and returns its status. It is killed with its group when its time is over, or if the caller is cancelled; the status
+    is None if its time is over."""
+    loop, has_ended, descriptor = asyncio.get_running_loop(), asyncio.Event(), -1
+    try:
+        descriptor = os.pidfd_open(process)
+        loop.add_reader(descriptor, has_ended.set)
+        with contextlib.suppress(TimeoutError):
+            async with asyncio.timeout(seconds):
+                await has_ended.wait()
+    finally:
+        ended, status = os.waitpid(process, os.WNOHANG)
+        if not ended:
+            os.killpg(process, signal.SIGKILL)
+            await asyncio.to_thread(os.waitpid, process, 0)
+        if descriptor >= 0:
+            loop.remove_reader(descriptor)
+            os.close(descriptor)
+    return os.waitstatus_to_exitcode(status) if ended else None
+
+
 async def run(words: list[str], seconds: float | None = None) -> Done:
-    """Runs a process until it ends. It is killed when its time is over, or if the caller is cancelled."""
+    """Runs a program to its end. It is killed when its time is over, or if the caller is cancelled."""
     began = time.monotonic()
-    async with started(words) as (process, _):
-        # The empty input closes the pipe.
-        talk = asyncio.create_task(process.communicate(b""))
-        try:
-            await asyncio.wait([talk], timeout=seconds)
-            # On a busy computer, this process may be late to notice that the other process has ended, or to read its output.
-            await asyncio.wait([talk], timeout=LATE if process.returncode is not None else SOON)
-            streams = talk.result() if talk.done() else (b"", b"")
-        finally:
-            talk.cancel()
-        return Done(process.returncode, *streams, time.monotonic() - began)
+    with contextlib.ExitStack() as stack:
+        # A file in memory costs less than a pipe, and has all output as soon as the program has ended.
+        output, errors = (stack.enter_context(open(os.memfd_create(name), "r+b", buffering=0)) for name in ("output", "errors"))
+        status = await status_of(spawned(words, output.fileno(), errors.fileno()), None if seconds is None else seconds + SOON)
+        for file in (output, errors):
+            file.seek(0)
+        return Done(status, output.read(), errors.read(), time.monotonic() - began)
+
+
+async def in_thread(call: Callable[..., object], *arguments: object) -> None:
+    """Makes a call in a thread, and waits for its end even if this is cancelled."""
+    calling = asyncio.create_task(asyncio.to_thread(call, *arguments))
+    try:
+        await asyncio.shield(calling)
+    finally:
+        await asyncio.wait([calling])
 
 
 async def is_answered(referee: Referee, match: str, place: str, slots: asyncio.Semaphore) -> bool:

@@ -30,7 +30,9 @@ PORT = "{port}"
 RUNS_ELSEWHERE = "a program that runs its arguments on another machine"
 MEMORY = re.compile("[1-9][0-9]{0,5}[KMGT]")
 MOST_PROCESSORS, MOST_START_SECONDS, MOST_RATING = 4_096, 3_600, 10_000
-# The default time limit for grounding a description, in seconds, and the maximum.
+# How long a job may wait before its launcher runs it, for example in a queue, in seconds.
+QUEUE_SECONDS, MOST_QUEUE_SECONDS = 3_600, 604_800
+# The default time limit for making a description ground, in seconds, and the maximum.
 INSTANTIATING, MOST_INSTANTIATING = 60, 1_000_000
 # The forms that plan each round from the results of the previous one.
 ROUND_KINDS = SWISS, KNOCKOUT = "swiss", "knockout"
@@ -310,6 +312,7 @@ class Command:
     processors: int = read_by(Section.number, 0, MOST_PROCESSORS, 0)
     restart: str = read_by(Section.word, RESTARTS, WHEN_DEAD)
     start_seconds: int = read_by(Section.number, 1, MOST_START_SECONDS, 10)
+    queue_seconds: int = read_by(Section.number, 1, MOST_QUEUE_SECONDS, QUEUE_SECONDS, default=QUEUE_SECONDS)
 
 
 @dataclass(frozen=True)
@@ -330,10 +333,11 @@ class Player:
 
 @dataclass(frozen=True)
 class Launcher:
-    """A command that runs a program on another machine, and how many matches it may have at a time."""
+    """A command that runs a program on another machine, how many matches it may have at a time, and how long each may wait until it runs."""
 
     command: tuple[str, ...] = read_by(Section.words, RUNS_ELSEWHERE)
     slots: int = read_by(Section.number, 1, MOST_AT_A_TIME)
+    queue_seconds: int = read_by(Section.number, 1, MOST_QUEUE_SECONDS, QUEUE_SECONDS, default=QUEUE_SECONDS)
 
 
 @dataclass(frozen=True)

@@ -24,6 +24,8 @@ PLAYERS = "players"
 STAGES = ASKING, PLAYING, CHECKING = "asking", "playing", "checking"
 # A number of open files that suffices for the maximum numbers of matches at the same time, and of connections.
 DESCRIPTORS = 16_384
+# The maximum size of a file of a plan that is read as a whole.
+MOST_OF_PLANNED = 64 << 20
 # The mode of files that only their owner may read: those of open matches, players and `play`, and the key of the ids.
 PRIVATE = 0o600
 
@@ -234,6 +236,10 @@ class Folder:
                 file.seek(size - most - 1)
                 file.readline(most)
             return file.read(most), is_cut
+
+    def mark(self) -> str:
+        """Returns the mark of the programs that `play` runs for this competition."""
+        return os.path.realpath(self.path)
 
     def refuse_old_logs(self) -> None:
         """Refuses a competition that was played with a version whose logs are not JSON."""

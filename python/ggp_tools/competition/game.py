@@ -31,7 +31,7 @@ LISTED, MOST_STATE = 10, 500
 TRIAL_MATCHES, TRIAL_SECONDS = 5, 10
 # The last line of `ggp-instantiate` if it failed for a reason other than an error in the description.
 NO_VERDICT = re.compile(
-    r"ggp-instantiate ended with status .*|ggp-instantiate: (error: |gringo is not installed|gringo took ).*|.*: can't open file .*"
+    r"ggp-instantiate ended with status .*|ggp-instantiate: (error: |gringo is not installed|gringo took |gringo ran ).*|.*: can't open file .*"
     r"|([a-z_]+\.)*[A-Z]\w*(Error|Exception|Interrupt)\b.*"
 )
 
@@ -91,8 +91,8 @@ def load(path: pathlib.Path, text: bytes, referee: Referee, limit: int) -> Rules
     except NoDescription as why:
         *more, last = str(why).splitlines()
         if NO_VERDICT.fullmatch(last):
-            # A grounder that was killed causes the same message.
-            last = f"{last}, or was killed" if "gringo took" in last else last
+            # The message is the same if the grounder was killed.
+            last = f"{last}, or it was killed" if "gringo ran out of memory" in last else last
             raise Unchecked(f"ggp-instantiate gave no verdict for {path}: {'; '.join([last, *more])}") from None
         raise
 
@@ -209,12 +209,12 @@ def trial(rules: bytes, referee: Referee, name: str) -> tuple[str | None, str | 
             if not played.ended[-1].cause:
                 return None, None
     except TimeIsOver:
-        return None, f"no random match ended within {TRIAL_SECONDS} s; `ggp_competition game` tries longer"
+        return None, f"none of its random matches ended within {TRIAL_SECONDS} s; `ggp_competition game` tries for longer"
     except RecursionError:
         return None, "it was not tested: its rules depend on one another too deeply"
     finally:
         reporter.clear()
     causes = ", ".join(dict.fromkeys(match.cause for match in played.ended))
     if all(match.turns == 0 for match in played.ended):
-        return f"no match can begin: each one is aborted at the start with `{causes}`", None
+        return f"none of its matches can begin: each is aborted at the start with `{causes}`", None
     return f"all of {TRIAL_MATCHES} random matches were aborted, with `{causes}`", None

@@ -8,7 +8,7 @@ from dataclasses import replace
 from pathlib import Path
 
 from ggp_tools.competition.competition_file import MOST_OF_COMPETITION, MOST_PLAYERS, RANDOM_IDS, Competition, Mistaken, read_competition, mistake_lines
-from ggp_tools.competition.files import UNFINISHED, Folder, Refused, file_bytes
+from ggp_tools.competition.files import MOST_OF_PLANNED, UNFINISHED, Folder, Refused, file_bytes
 from ggp_tools.competition.growth import Again, History
 from ggp_tools.competition.table import ALL
 
@@ -29,10 +29,10 @@ def again_text(orders: tuple[Again, ...]) -> bytes:
 def read_again(folder: Folder) -> tuple[Again, ...]:
     if not folder.again.exists():
         return ()
-    text = file_bytes(folder.again)
+    text = file_bytes(folder.again, MOST_OF_PLANNED + 1)
     lines = [LINE.fullmatch(line) for line in text.removeprefix(HEAD).splitlines(keepends=True)]
     found = tuple(Again(*(word.decode("ascii") for word in line.groups())) for line in lines if line)
-    if not lines or again_text(found) != text or len({order.match for order in found}) != len(found):
+    if not lines or len(text) > MOST_OF_PLANNED or again_text(found) != text or len({order.match for order in found}) != len(found):
         raise Refused(f"{folder.again} is not what `ggp_competition again` writes")
     return found
 
@@ -50,7 +50,9 @@ def competition_of_file(path: Path, text: bytes, seeds: Path | None = None) -> C
 def seeded(competition: Competition, path: Path) -> Competition:
     """Returns a competition with its players in the order of another competition's table. Players that the table lacks come last."""
     try:
-        heads, *rows = filter(None, csv.reader(io.StringIO(file_bytes(path).decode("ascii"))))
+        if len(text := file_bytes(path, MOST_OF_PLANNED + 1)) > MOST_OF_PLANNED:
+            raise ValueError
+        heads, *rows = filter(None, csv.reader(io.StringIO(text.decode("ascii"))))
         game, player = heads.index("game"), heads.index("player")
         seeds = {row[player]: at for at, row in enumerate(rows) if row[game] == ALL}
     except OSError as why:
@@ -85,7 +87,7 @@ def read_key(folder: Folder, competition: Competition) -> bytes:
         return b""
     if not folder.key.exists():
         raise Refused(f"{folder.key} is missing", "put it back: the ids of the matches follow from it")
-    key = file_bytes(folder.key)
+    key = file_bytes(folder.key, MOST_OF_PLANNED)
     if not KEY.fullmatch(key):
         raise Refused(f"{folder.key} is not what `ggp_competition plan` writes")
     return key

@@ -33,7 +33,7 @@ replaced = 3      # a player with this many replaced moves in a match has lost i
 kind = "{kind}"
 {form}"""
 BY_ROUNDS = """pause = false     # true: `play` ends after each round
-absent_rounds = 0 # a player is withdrawn after this many rounds without a move; 0: never
+absent_rounds = 0 # a player is withdrawn after this many rounds in which all its moves were replaced; 0: never
 """
 GAME = """
 [[games]]

@@ -8,12 +8,13 @@ import sys
 from collections.abc import Awaitable, Callable, Sequence
 
 from ggp_tools.competition.children import MOST_AT_ONCE, started
-from ggp_tools.competition.competition_file import is_address
+from ggp_tools.competition.competition_file import QUEUE_SECONDS, is_address
 from ggp_tools.competition.job import BEAT, OURS
 from ggp_tools.match_log import LONGEST_LINE
 from ggp_tools.printable import printable
 
 SILENT, LONG = "it sent nothing for {:.0f} s", "it sent a line of more than {:,} bytes"
+NOT_RUN = "its launcher did not run it within {:,} s; it may need more `queue_seconds`"
 NO_PLAYER = "it sent {!r} instead of the player's process and address"
 # After a job has ended, its output is read only for this many seconds, because a process that the job left behind may keep the pipe open.
 MOST_UNREAD = 2
@@ -39,17 +40,17 @@ def is_player(text: str) -> bool:
 
 
 class Job:
-    """A run of `job.py`: by a launcher on another computer, or without a launcher on this one. `take_output` is called with its standard
-    output. `take_lines` is called with the lines of standard error that the job passes on, several at a time. The job is up when it has
-    sent a line that begins with the word in `up`. The computer on which the job runs may be hostile."""
+    """A run of `job.py` by a launcher on another computer, or on this one without a launcher. `take_output` gets its standard output, and `take_lines`
+    the lines of standard error that it passes on, several at a time. A launcher must run the job within `queue_seconds`. The computer on which it runs
+    may be hostile."""
 
     def __init__(
-        self, take_output: Callable[[bytes], Awaitable[None]], take_lines: Callable[[bytes], Awaitable[None]], up: str = "node", end_seconds: float = END_SECONDS
+        self, take_output: Callable[[bytes], Awaitable[None]], take_lines: Callable[[bytes], Awaitable[None]],
+        queue_seconds: float = QUEUE_SECONDS, end_seconds: float = END_SECONDS,
     ) -> None:
-        self.take_output, self.take_lines, self.up, self.end_seconds = take_output, take_lines, up, end_seconds
-        self.is_up, self.process, self.is_remote = asyncio.Event(), None, False
-        # What the job reports: the node; the process and the address of a player; the exit status. Then the reason why the job was given
-        # up.
+        self.take_output, self.take_lines, self.queue_seconds, self.end_seconds = take_output, take_lines, queue_seconds, end_seconds
+        self.runs, self.has_player, self.process, self.is_remote = asyncio.Event(), asyncio.Event(), None, False
+        # What the job reports: the node, the process and the address of a player, and the exit status. Then the reason why the job was given up.
         self.node, self.player, self.status, self.why = "", "", None, ""
         # Whether the job has its task, and whether the task may continue after the local process of the job has ended.
         self.has_begun, self.goes_on = False, False
@@ -63,12 +64,13 @@ class Job:
         self.has_begun = True
         self.process.stdin.write(json.dumps(task).encode() + b"\n")
 
-    async def came_up(self) -> bool:
-        """Waits until the job is running on its node, or has ended. Returns whether it is running."""
-        starting = asyncio.create_task(self.is_up.wait())
-        await asyncio.wait([self.running, starting], return_when=asyncio.FIRST_COMPLETED)
-        starting.cancel()
-        return self.is_up.is_set() and not self.running.done()
+    async def reports(self, event: asyncio.Event, seconds: float | None = None) -> bool:
+        """Waits, for at most this many seconds, until the job has reported that it runs or has a player, or has ended. Returns whether it has reported that,
+        and has not ended."""
+        reporting = asyncio.create_task(event.wait())
+        await asyncio.wait([self.running, reporting], timeout=seconds, return_when=asyncio.FIRST_COMPLETED)
+        reporting.cancel()
+        return event.is_set() and not self.running.done()
 
     async def run(self, launcher: Sequence[str], task: dict[str, object] | None) -> None:
         self.is_remote = bool(launcher)
@@ -109,16 +111,16 @@ class Job:
         """Reads standard error. While a job waits in a queue, it may be silent, but not when it runs."""
         rest = b""
         try:
-            async with asyncio.timeout(None) as silence:
+            async with asyncio.timeout(self.queue_seconds if self.is_remote else None) as silence:
                 while data := await self.process.stderr.read(MOST_AT_ONCE):
                     *lines, rest = (rest + data).split(b"\n")
                     await self.take(lines)
                     if len(rest) > LONGEST_LINE:
                         raise Lost(LONG.format(LONGEST_LINE))
-                    if self.node and self.is_remote:
+                    if self.is_remote and self.runs.is_set():
                         silence.reschedule(asyncio.get_running_loop().time() + LOST_SECONDS)
         except TimeoutError:
-            raise Lost(SILENT.format(LOST_SECONDS)) from None
+            raise Lost(SILENT.format(LOST_SECONDS) if self.runs.is_set() else NOT_RUN.format(self.queue_seconds)) from None
         if rest:
             await self.take([rest])
 
@@ -135,16 +137,17 @@ class Job:
         word, _, rest = line.removeprefix(OURS).decode("ascii", "replace").partition(" ")
         if word == "player" and not is_player(rest):
             raise Lost(NO_PLAYER.format(printable(rest, MOST_OF_NAME)))
+        self.runs.set()
         if word in ("node", "player") and not getattr(self, word):
             setattr(self, word, printable(rest)[:MOST_OF_NAME])
         elif word == "status" and re.fullmatch("-?[0-9]{1,3}", rest):
             self.status = int(rest)
-        if word == self.up:
-            self.is_up.set()
+        if self.player:
+            self.has_player.set()
 
     async def beat(self) -> None:
-        """When the job runs, sends it a byte every few seconds."""
-        await self.is_up.wait()
+        """Sends the job a byte every few seconds, once it runs."""
+        await self.runs.wait()
         while not self.process.stdin.is_closing():
             self.process.stdin.write(b"\n")
             await asyncio.sleep(BEAT)

@@ -79,6 +79,8 @@ class Known:
         self.name = sum_of_parts(os.fsencode(folder.absolute()), sys.version.encode(), *code)
         # The stored facts are ignored if their file has changed since it was written, or if another user may have written it.
         self.before, self.read, self.used = facts_in(cached(KIND, self.name)), {}, {}
+        # By match id: the key of its result, and the checksum of its record.
+        self.checked: dict[str, tuple[str, str]] = {}
         self.lock = threading.Lock()
 
     def facts(self, kind: str) -> dict[str, typing.Any]:

@@ -603,8 +603,9 @@ class Reader:
         # If it was replaced meanwhile, the next update reads it again.
         self.results[match.id], self.identities[match.id] = result, files
         self.results_version += 1
-        if match.id in self.ending:
-            self.ending.remove(match.id)
+        # The directory of the open match may still be there for a moment.
+        if self.open.pop(match.id, None) or match.id in self.ending:
+            self.ending.discard(match.id)
             self.ended[match.id] = clock(), last_states(record["states"])
 
     def run_of(self, name: str) -> tuple[list[Event], bool]:

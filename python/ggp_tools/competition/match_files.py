@@ -1,13 +1,12 @@
 """Checks the files of the matches. A match counts if it has a lawful record and a call log that reproduces this record."""
 
-import concurrent.futures
 import contextlib
 import itertools
 import json
 import os
 import pathlib
 import threading
-from collections.abc import Iterable, Iterator, Mapping, Sequence
+from collections.abc import Callable, Iterable, Iterator, Mapping, Sequence
 from dataclasses import replace
 from typing import TYPE_CHECKING, NamedTuple
 
@@ -19,7 +18,7 @@ from ggp_tools.competition.results import Result, counted_result, fault_of_recor
 from ggp_tools.competition.schedule import Match
 from ggp_tools.competition.side_by_side import PROCESSORS
 from ggp_tools.records.lengths import LONGEST_ACCOUNT, USUAL_RECORD, longest_record, without_states
-from ggp_tools.records.record import is_list, is_text
+from ggp_tools.records.record import is_list, is_text, record_sum
 from ggp_tools.referee import Referee, Unchecked
 
 if TYPE_CHECKING:
@@ -44,14 +43,18 @@ class Check(NamedTuple):
 
 
 def size_of(*files: pathlib.Path) -> int:
-    return sum(file.stat().st_size for file in files if file.exists())
+    size = 0
+    for file in files:
+        with contextlib.suppress(OSError):
+            size += os.stat(file).st_size
+    return size
 
 
-def batches(folder: Folder, matches: Iterable[Match]) -> Iterator[list[Match]]:
+def batches(matches: Iterable[Match], size_of_match: Callable[[Match], int]) -> Iterator[list[Match]]:
     """Yields the matches in order, in batches that are checked together."""
     batch, size = [], 0
     for match in matches:
-        more = size_of(*files_of(folder, match.id)[1:])
+        more = size_of_match(match)
         if batch and (len(batch) == TOGETHER or size + more > BYTES_TOGETHER):
             yield batch
             batch, size = [], 0
@@ -154,47 +157,77 @@ def sum_of_rule(plan: "Plan", referee: Referee, game: str) -> bytes | None:
     return sum_of_parts(*(str(part).encode() for part in (*sums, competition.strikes, competition.faults.replaced))).encode()
 
 
+def key_of_files(rule: bytes, match: Match, record: bytes, account: bytes | None) -> str:
+    """Returns the key under which the result of a match is known."""
+    return sum_of_parts(rule, repr(match).encode(), record, account or b"")
+
+
+def known_checks(plan: "Plan", referee: Referee, game: str, matches: Sequence[Match], known: Known) -> dict[str, Check]:
+    """Returns the checks of the matches of a game whose files are known, by match id."""
+    rule, rules, found = sum_of_rule(plan, referee, game), plan.rules[game].text, {}
+    for match in matches if rule else ():
+        record = record_bytes(plan.folder, match.id, rules)
+        key = key_of_files(rule, match, record, account_bytes(plan.folder, match.id))
+        if result := known.get("results", key):
+            is_same = result.has_forfeits == plan.competition.forfeit
+            found[match.id] = Check(match, result=result if is_same else replace(result, has_forfeits=plan.competition.forfeit))
+            known.checked[match.id] = key, record_sum(record)
+    return found
+
+
 def checks(plan: "Plan", referee: Referee, game: str, matches: Sequence[Match], known: Known | None = None) -> list[Check]:
-    """Checks those matches of a game that have records. Matches whose files are known are not checked again. If the referee gives no
-    verdict, raises `Unchecked`."""
+    """Checks matches of a game that have records. Raises `Unchecked` if the referee gives no verdict."""
     rules, done, left = plan.rules[game].text, {}, []
     rule = sum_of_rule(plan, referee, game) if known else None
     for match in matches:
         record, account = record_bytes(plan.folder, match.id, rules), account_bytes(plan.folder, match.id)
-        key = sum_of_parts(rule, repr(match).encode(), record, account or b"") if rule else ""
-        if rule and (result := known.get("results", key)):
-            done[match.id] = Check(match, result=replace(result, has_forfeits=plan.competition.forfeit))
-        elif fault := fault_of_files(record, account, rules):
+        if fault := fault_of_files(record, account, rules):
             done[match.id] = Check(match, fault)
         else:
-            left.append((match, record, account, key))
-    faults = referee_faults(plan, referee, game, [record for _, record, _, _ in left], [account for _, _, account, _ in left]) if left else ()
-    # If the program or the rules have changed in the meantime, it is unknown which version the referee used.
+            left.append((match, record, account))
+    faults = referee_faults(plan, referee, game, [record for _, record, _ in left], [account for _, _, account in left]) if left else ()
+    # If the program or the rules have changed meanwhile, it is not known which version the referee used.
     is_same = rule and rule == sum_of_rule(plan, referee, game)
-    for (match, record, _, key), fault in zip(left, faults):
-        done[match.id] = check_of(plan, match, record, fault)
-        if is_same and done[match.id].result:
-            known.put("results", key, done[match.id].result)
+    for (match, record, account), fault in zip(left, faults):
+        check = done[match.id] = check_of(plan, match, record, fault)
+        if is_same and check.result:
+            known.checked[match.id] = key, _ = key_of_files(rule, match, record, account), record_sum(record)
+            known.put("results", key, check.result)
     return [done[match.id] for match in matches]
+
+
+def in_threads(call: Callable[..., list[Check]], parts: Sequence[tuple]) -> Iterator[list[Check]]:
+    """Makes a call for each part. The referee takes most of the time, and each call has separate processes."""
+    if parts:
+        # Loading this takes long, and usually everything is known.
+        from concurrent.futures import ThreadPoolExecutor
+
+        with ThreadPoolExecutor(PROCESSORS) as pool:
+            yield from pool.map(call, parts)
 
 
 def check_records(plan: "Plan", referee: Referee, known: Known | None = None) -> tuple[dict[str, Result], dict[str, str], dict[str, str]]:
     """Returns, by match id, the results of the matches that count, and the faults and misfits of the others with records."""
     by_game: dict[str, list[Match]] = {}
+    names = {file.name for file in os.scandir(plan.folder.records)} if plan.folder.records.is_dir() else ()
     for match in plan.matches:
-        if plan.folder.record(match.id).exists():
+        if plan.folder.record(match.id).name in names:
             by_game.setdefault(match.game, []).append(match)
 
+    def size_of_match(match: Match) -> int:
+        return size_of(*files_of(plan.folder, match.id)[1:])
+
     def check_batch(part: tuple[str, list[Match]]) -> list[Check]:
-        size = sum(size_of(*files_of(plan.folder, match.id)[1:]) for match in part[1])
-        with LARGE if size > BYTES_TOGETHER else contextlib.nullcontext():
+        with LARGE if sum(map(size_of_match, part[1])) > BYTES_TOGETHER else contextlib.nullcontext():
             return checks(plan, referee, *part, known)
 
-    parts = [(game, batch) for game, matches in by_game.items() for batch in batches(plan.folder, matches)]
+    done, parts = [], []
+    for game, matches in by_game.items():
+        found = known_checks(plan, referee, game, matches, known) if known else {}
+        done += found.values()
+        parts += [(game, batch) for batch in batches((match for match in matches if match.id not in found), size_of_match)]
     try:
-        # The referee takes most of the time. It runs as a separate process for each batch.
-        with concurrent.futures.ThreadPoolExecutor(PROCESSORS) as pool:
-            done = list(itertools.chain.from_iterable(pool.map(check_batch, parts)))
+        done += itertools.chain.from_iterable(in_threads(check_batch, parts))
     except MemoryError:
         raise Unchecked("records and call logs can't be checked: out of memory") from None
     results = {check.match.id: check.result for check in done if check.result}

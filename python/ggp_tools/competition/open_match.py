@@ -6,20 +6,15 @@ import pathlib
 import shutil
 import tempfile
 import time
-from typing import TYPE_CHECKING, NamedTuple
+from typing import TYPE_CHECKING
 
-from ggp_tools.competition.children import Done, run, send_aborts
-from ggp_tools.competition.described import DIFFERS, IS_NOT_FOLLOWED, IS_SAME, comparisons, description_of, write_report
-from ggp_tools.competition.files import ASKING, CHECKING, PLAYERS, PLAYING, file_bytes, new_file, write_whole
+from ggp_tools.competition.children import Done, in_thread, run, send_aborts
+from ggp_tools.competition.files import ASKING, CHECKING, PLAYERS, PLAYING, new_file, write_whole
 from ggp_tools.competition.jobs import SILENCE, Job, Lost
-from ggp_tools.competition.match_files import check_of, fault_of_files, keep, referee_faults
-from ggp_tools.competition.plan import Plan
-from ggp_tools.competition.results import Result
 from ggp_tools.competition.schedule import Match
 from ggp_tools.match_log import Event, Host, Other, line_of
-from ggp_tools.printable import MOST_READ, message_lines, printable
+from ggp_tools.printable import MOST_READ, message_lines
 from ggp_tools.records.lengths import LONGEST_ACCOUNT, MOST_TURNS, longest_record
-from ggp_tools.referee import Referee, Unchecked
 
 if TYPE_CHECKING:
     from ggp_tools.competition.playing import Playing
@@ -72,24 +67,28 @@ class OpenMatch:
     async def go(self) -> None:
         """Plays the match. If the match is ended while it is being played, `is_broken` is set."""
         try:
-            self.directory.mkdir(0o700, parents=True, exist_ok=True)
-            self.enter(ASKING)
-            new_file(self.log).close()
+            # Threads wait for the disk.
+            await in_thread(self.make_directory)
             if played := await (self.play_elsewhere() if self.playing.launcher else self.play_here()):
                 self.release_players()
-                self.enter(CHECKING)
-                # The check runs in a thread, because it waits for the disk.
-                check = await asyncio.to_thread(check_match, self.plan, self.playing.referee, self.match, played, file_bytes(self.log))
-                self.result, self.why, self.stops_game = check
+                self.stage = CHECKING
+                await in_thread((self.directory / CHECKING).touch)
+                self.result, self.why, self.stops_game = await self.playing.checking.check(self.match, played, self.log)
         except BaseException:
             self.is_broken = self.stage == PLAYING
             raise
         finally:
             self.close()
 
-    def enter(self, stage: str) -> None:
-        self.stage = stage
-        (self.directory / stage).touch()
+    def make_directory(self) -> None:
+        self.directory.mkdir(0o700, parents=True, exist_ok=True)
+        (self.directory / ASKING).touch()
+        new_file(self.log).close()
+
+    def name_players(self) -> None:
+        """Names the players of a match that begins. They must be sent ABORT if the referee ends before the match."""
+        write_whole(self.directory / PLAYERS, "".join(f"{place}\n" for place in self.places).encode())
+        (self.directory / PLAYING).touch()
 
     def release_players(self) -> None:
         if self.has_slots:
@@ -99,18 +98,18 @@ class OpenMatch:
             self.playing.news.set()
 
     def close(self) -> None:
-        """Removes the directory. If the match was broken off, now or during an earlier `play`, the directory stays, because the players
-        must still be sent ABORT."""
+        """Removes the directory, unless the match has a result, or its players must still be sent ABORT because it broke now or during an earlier
+        `play`."""
         if self.stage == ASKING and (self.directory / PLAYERS).exists():
             leave_players(self.directory)
-        elif not self.is_broken:
+        elif not self.is_broken and not self.result:
             shutil.rmtree(self.directory, ignore_errors=True)
 
     async def can_be_played(self) -> bool:
         """Returns whether the match has begun. If it has not, and its players are free, begins it."""
         if self.stage == ASKING and await self.ask() and self.playing.may_begin(self.match):
-            write_whole(self.directory / PLAYERS, "".join(f"{place}\n" for place in self.places).encode())
-            self.enter(PLAYING)
+            self.stage = PLAYING
+            await in_thread(self.name_players)
         return self.stage == PLAYING
 
     async def ask(self) -> bool:
@@ -194,7 +193,7 @@ class OpenMatch:
                 return None
             if not job.why and job.status is not None:
                 return self.outcome_of(done)
-            why = job.why or done.message()
+            why = ": ".join([job.why, *message_lines(done.errors)[-1:]]) if job.why else done.message()
             self.add_event(Other("lost", {"match": self.match.id, "time": int(time.time() * 1_000), "reason": why}))
             self.reporter.line(f"lost {self.match.id} on {job.node or 'no node'}: {why}")
             if job.has_begun:
@@ -217,7 +216,7 @@ class MatchJob(Job):
     """A job that plays a match on a node. The job must not send more than a referee can write about the match."""
 
     def __init__(self, open_match: OpenMatch) -> None:
-        super().__init__(self.take_output, self.take_lines)
+        super().__init__(self.take_output, self.take_lines, open_match.playing.launcher.queue_seconds)
         self.match = open_match
         record, roles = longest_record(open_match.plan.rules[open_match.match.game].text), len(open_match.match.players)
         # Each player is sent all moves, and a byte of an answer may take six bytes in the log.
@@ -252,7 +251,7 @@ class MatchJob(Job):
         match, began = self.match, time.monotonic()
         self.start([word.replace("{match}", match.match.id) for word in match.playing.launcher.command])
         try:
-            if await self.came_up():
+            if await self.reports(self.runs):
                 if not await match.can_be_played():
                     return None
                 match.add_event(Host(match.match.id, self.node))
@@ -266,60 +265,3 @@ class MatchJob(Job):
         finally:
             await self.end()
             match.goes_on = self.goes_on
-
-
-# ---- the check of a match that was played
-
-
-class Checked(NamedTuple):
-    """The result of a match, or the reason why it does not count, and whether the rules of its game are wrong."""
-
-    result: Result | None = None
-    why: str | None = None
-    stops_game: bool = False
-
-
-def check_match(plan: Plan, referee: Referee, match: Match, output: bytes, log: bytes) -> Checked:
-    """Has the referee verify the record and replay the call log in the output of a match, compares the match with the description of its
-    game, and writes the files only then. If the referee gives no verdict, the files get the ending `.unchecked`."""
-    line, end, account = output.partition(b"\n")
-    record = line + end
-    if fault := fault_of_files(record, account, plan.rules[match.game].text):
-        return Checked(why=fault)
-    try:
-        (fault,) = referee_faults(plan, referee, match.game, [record], [account])
-    except Unchecked as why:
-        file = keep(plan.folder, match.id, record, account, log, "unchecked")
-        return Checked(why=f"it was played, but not checked, and is kept as {file}: {why}")
-    check = check_of(plan, match, record, fault)
-    if not check.result:
-        return Checked(why=check.fault or check.misfit)
-    description, comparison = compare(plan, match, record)
-    if comparison and comparison.startswith(DIFFERS):
-        file = keep(plan.folder, match.id, record, account, log, "differs")
-        files = {"description.kif": description, "record.json": record, "account.txt": account, "words.txt": f"{comparison}\n".encode("ascii", "replace")}
-        report = write_report(plan, match, files)
-        why = f"compared with the description of {match.game}, it {comparison}; it is kept as {file}; please report this, and include {report}"
-        return Checked(None, why, True)
-    if comparison:
-        why_not = None if comparison.startswith(IS_SAME) else printable(comparison.removeprefix(IS_NOT_FOLLOWED))
-        log += line_of(Other("held", {"match": match.id, "reason": why_not}))
-    keep(plan.folder, match.id, record, account, log)
-    return Checked(check.result)
-
-
-def compare(plan: Plan, match: Match, record: bytes) -> tuple[bytes | None, str | None]:
-    """Compares a record with the description of its game. Returns the description, and the outcome or the reason why there is none. If the
-    game was given as ground rules, both are None."""
-    game = next(game for game in plan.competition.games if game.name == match.game)
-    description, why_not = description_of(plan, game)
-    if description is None:
-        return None, why_not
-    # The comparison uses a copy of the file, because the file may change.
-    with tempfile.NamedTemporaryFile(dir=plan.folder.open / match.id) as copy:
-        copy.write(description)
-        copy.flush()
-        try:
-            return description, comparisons(pathlib.Path(copy.name), [record])[0]
-        except Unchecked as why:
-            return description, str(why)

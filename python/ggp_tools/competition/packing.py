@@ -13,7 +13,7 @@ from collections.abc import Iterable, Iterator
 from typing import BinaryIO
 
 from ggp_tools.competition.competition_file import MOST_OF_COMPETITION
-from ggp_tools.competition.files import Refused
+from ggp_tools.competition.files import MOST_OF_PLANNED, Refused
 from ggp_tools.competition.schedule import MOST_MATCHES, id_in
 from ggp_tools.records.lengths import LONGEST_ACCOUNT
 
@@ -26,7 +26,7 @@ AT_ONCE, MOST_BYTES = 1 << 20, 8 << 30
 # The maximum sizes of files that `check` reads as a whole, by the file's name or directory.
 MOST_OF_FILES = {
     **dict.fromkeys(("competition.toml", "planned.toml", "earlier"), MOST_OF_COMPETITION),
-    **dict.fromkeys(("schedule.tsv", "SHA256SUMS", "again.tsv", "seeds.csv", "ids.key", "rules", "games"), 64 << 20),
+    **dict.fromkeys(("schedule.tsv", "SHA256SUMS", "again.tsv", "seeds.csv", "ids.key", "rules", "games"), MOST_OF_PLANNED),
     **dict.fromkeys(("accounts", "logs", "pages"), LONGEST_ACCOUNT),
     "records": 1 << 30,
 }

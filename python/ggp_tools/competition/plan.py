@@ -1,6 +1,7 @@
 """Plans a competition: writes its rules and its schedule, extends them later, and reads them again."""
 
 import functools
+import itertools
 import os
 import re
 import secrets
@@ -10,14 +11,14 @@ from pathlib import Path
 
 from ggp_tools.competition.addresses import mistakes_of_addresses, places_now, written
 from ggp_tools.competition.competition_file import MOST_OF_COMPETITION, RANDOM_IDS, REASON, Competition, Game, Mistake, Mistaken, mistake_lines
-from ggp_tools.competition.files import UNFINISHED, Folder, Refused, file_bytes, held, write_whole
+from ggp_tools.competition.files import MOST_OF_PLANNED, UNFINISHED, Folder, Refused, file_bytes, held, opened_file, write_whole
 from ggp_tools.competition.game import trial
 from ggp_tools.competition.growth import Again, Growing, History, Misfit, grown, refuse_changes, refuse_unchanged, shape
 from ggp_tools.competition.history import again_text, competition_of_file, earlier_files, history_files, read_history, read_key, seeded
 from ggp_tools.competition.match_files import check_records, checks, record_bytes, unverified_result
 from ggp_tools.competition.results import Result
 from ggp_tools.competition.rounds import Round, is_by_rounds, rounds_of
-from ggp_tools.competition.schedule import Match, id_of, matches_in, schedule_text
+from ggp_tools.competition.schedule import MOST_MATCHES, MOST_OF_ROW, Match, id_of, matches_in, schedule_rows, schedule_text
 from ggp_tools.descriptions.loading import NoDescription, Rules, Stopped, has_variables, load_described, load_description, rules_of, sum_of
 from ggp_tools.referee import Referee, Unchecked
 
@@ -69,7 +70,8 @@ class Unplanned(Refused):
 # ---- files of a plan
 
 
-def read_file(path: Path, most: int = -1) -> bytes:
+def read_file(path: Path, most: int = MOST_OF_PLANNED + 1) -> bytes:
+    """Returns the bytes of a file, or only the first `most` of them."""
     try:
         return file_bytes(path, most)
     except OSError as why:
@@ -84,7 +86,22 @@ def read_toml_file(path: Path) -> bytes:
 def read_planned(path: Path) -> bytes:
     if not path.exists():
         raise Unplanned(f"{path} does not exist", WRITES)
-    return read_file(path)
+    data = read_file(path)
+    if len(data) > MOST_OF_PLANNED:
+        raise not_planned(path)
+    return data
+
+
+def rows_of(path: Path) -> Iterator[bytes]:
+    """Yields the rows of a schedule one by one. Refuses more or longer rows than `plan` writes."""
+    try:
+        with opened_file(path) as file:
+            for number, row in enumerate(iter(lambda: file.readline(MOST_OF_ROW), b""), 1):
+                if number > MOST_MATCHES + 1 or len(row) == MOST_OF_ROW:
+                    raise Refused(f"{path}:{number}: expected at most {MOST_MATCHES:,} matches, each in a row of less than {MOST_OF_ROW:,} bytes")
+                yield row
+    except OSError as why:
+        raise Refused(f"{path} can't be read: {why.strerror}") from None
 
 
 def not_planned(path: Path) -> Refused:
@@ -123,7 +140,7 @@ def is_begun(folder: Folder) -> bool:
 
 def count_of_matches(folder: Folder) -> int | None:
     """Returns the number of matches in schedule.tsv, or None if it does not exist."""
-    return read_file(folder.schedule).count(b"\n") - 1 if folder.schedule.exists() else None
+    return sum(1 for _ in rows_of(folder.schedule)) - 1 if folder.schedule.exists() else None
 
 
 def files_of_origin(plan: Plan) -> list[Path]:
@@ -270,21 +287,22 @@ def planned_before(folder: Folder, competition: Competition) -> Competition | No
     return before
 
 
-def grows(folder: Folder, file: Path, old: bytes, new: bytes) -> bool:
+def grows(folder: Folder, file: Path, new: bytes) -> bool:
     """Returns whether a file of a plan may be replaced although matches have been played. All files except planned.toml may only grow."""
     if file in (folder.rule_sums, folder.description_sums):
-        return (read_sums(old) or {"": ""}).items() <= (read_sums(new) or {}).items()
+        return (read_sums(read_file(file)) or {"": ""}).items() <= (read_sums(new) or {}).items()
     if file == folder.schedule:
         # A round may be planned again as long as none of its matches has a record.
-        dropped = old[len(new) :].decode("ascii", "replace").splitlines()
-        return new.startswith(old) or old.startswith(new) and not any(folder.record(line.partition("\t")[0]).exists() for line in dropped)
-    return old == new or file == folder.planned
+        pairs = itertools.zip_longest(rows_of(file), new.splitlines(keepends=True), fillvalue=b"")
+        changes = ((old, row) for old, row in pairs if old and old != row)
+        return not any(row or folder.record(old.partition(b"\t")[0].decode("ascii", "replace")).exists() for old, row in changes)
+    return file == folder.planned or read_file(file) == new
 
 
 def write_plan(folder: Folder, is_begun: bool, files: dict[Path, bytes]) -> None:
     """Writes the files of a plan. After matches have been played, the files may only grow. Missing files are written again."""
     for file, data in files.items():
-        if is_begun and file.exists() and not grows(folder, file, read_file(file), data):
+        if is_begun and file.exists() and not grows(folder, file, data):
             raise Refused(f"{file} would change, but matches have already been played", "undo the change, or use another directory")
     try:
         folder.make(folder.rules, *([folder.earlier] if any(file.parent == folder.earlier for file in files) else []))
@@ -341,16 +359,20 @@ def read_plan(path: str, referee: Referee) -> Plan:
     folder.refuse_old_logs()
     text = read_toml_file(folder.competition)
     competition = competition_of_file(folder.competition, text, folder.seeds)
-    schedule, rules, history = read_planned(folder.schedule), read_rules(folder, competition, referee), read_history(folder, competition)
+    if (count := count_of_matches(folder)) is None:
+        raise Unplanned(f"{folder.schedule} does not exist", WRITES)
+    rules, history = read_rules(folder, competition, referee), read_history(folder, competition)
     try:
-        growing = schedule_of(folder, competition, rules, history, count_of_matches(folder))
-        if schedule != schedule_text(growing.matches):
-            refuse_lost_record(folder, growing, schedule)
+        growing = schedule_of(folder, competition, rules, history, count)
+        pairs = itertools.zip_longest(rows_of(folder.schedule), schedule_rows(growing.matches))
+        if different := next((pair for pair in pairs if pair[0] != pair[1]), None):
+            if different[1] is None:
+                refuse_lost_record(folder, growing)
             raise refused_plan(folder, folder.schedule)
     except Refused:
         # If rounds were paired by records that do not count, the schedule differs.
         if is_by_rounds(competition):
-            _, faults, misfits = check_records(Plan(folder, competition, rules, matches_in(schedule, competition)), referee)
+            _, faults, misfits = check_records(Plan(folder, competition, rules, matches_in(rows_of(folder.schedule), competition)), referee)
             if wrong := [f"{folder.record(match)}: {why}" for match, why in {**faults, **misfits}.items()]:
                 raise Refused("\n".join(wrong)) from None
         raise
@@ -364,11 +386,11 @@ def read_plan(path: str, referee: Referee) -> Plan:
     return Plan(folder, competition, rules, growing.matches, text, history, growing.rounds.found)
 
 
-def refuse_lost_record(folder: Folder, growing: Growing, schedule: bytes) -> None:
-    """Refuses a schedule with a round that cannot be planned, because a match of the previous round has no record."""
+def refuse_lost_record(folder: Folder, growing: Growing) -> None:
+    """Refuses a schedule with a further round, which cannot be planned if a match of the round before has no record."""
     number = len(growing.rounds.found)
     lost = [match.id for match in growing.of_round(number) if match.counts() and growing.result_of(match) is None]
-    if lost and schedule.startswith(schedule_text(growing.matches)):
+    if lost:
         fault = f"{folder.schedule} has round {number + 1}, which was paired by the result of {lost[0]}, but the record of {lost[0]} is missing"
         raise Refused(fault, f"put the record back; if no match of a later round has a record, {WRITES} without these rounds")
 

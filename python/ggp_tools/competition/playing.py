@@ -14,6 +14,7 @@ import time
 from collections import Counter, deque
 from collections.abc import Callable, Container, Iterable, Mapping
 
+from ggp_tools.competition.checking import Checking
 from ggp_tools.competition.children import send_aborts
 from ggp_tools.competition.competition_file import is_place
 from ggp_tools.competition.files import ASKING, PLAYERS, PLAYING, Refused, allow_files, file_bytes
@@ -24,7 +25,7 @@ from ggp_tools.competition.schedule import Match
 from ggp_tools.competition.slots import Slots
 from ggp_tools.competition.started_players import StartedPlayers
 from ggp_tools.printable import counted
-from ggp_tools.processes import APART
+from ggp_tools.processes import apart
 from ggp_tools.referee import Referee
 from ggp_tools.reporting import NOT_BEGUN, REDRAWN, Reporter
 
@@ -49,8 +50,8 @@ class Playing:
         # `news` is set after an interrupt, and when it is possible that further matches can begin. `ends` is set when there is another
         # result.
         self.news, self.ends = asyncio.Event(), asyncio.Event()
-        self.players = StartedPlayers(plan.folder, plan.competition, referee, reporter)
-        # By match id: the results, and the reasons why matches have none. By game: the reason why no more matches of the game begin.
+        self.players, self.checking = StartedPlayers(plan.folder, plan.competition, referee, reporter), Checking(plan, referee)
+        # By match id: the results, and the reasons why matches have none. By game: why no more of its matches begin.
         self.results, self.left, self.stopped = {}, {}, {}
         # By game: for each finished match, the seconds from its INFO to its end.
         self.took: dict[str, list[float]] = {}
@@ -136,6 +137,11 @@ class Playing:
         if (fault := self.reporter.journal.fault) and not self.is_full:
             self.is_full = True
             self.reporter.line(f"{fault.filename} can't be written: {fault.strerror}; no more matches begin")
+        # A match whose players are being asked can't begin any more, and a launcher may take long to run it.
+        for open_match, task in self.open.items() if not self.may_begin() else ():
+            if open_match.stage == ASKING and not task.cancelling():
+                self.waiting.append(open_match.match)
+                task.cancel()
         return bool(self.open or self.waiting and self.may_begin())
 
     async def wait_for_news(self) -> None:
@@ -212,7 +218,6 @@ class Playing:
                 asyncio.get_running_loop().add_signal_handler(number, self.interrupt, count)
         may_pair = not self.plan.competition.pause or not self.waiting
         try:
-            APART.set(True)
             await self.go()
             while may_pair and self.may_begin() and not self.reporter.fault and (matches := plan_next_round(self.plan, self.results)):
                 may_pair = not self.plan.competition.pause
@@ -278,7 +283,8 @@ def abort_open_matches(playing: Playing, directories: dict[pathlib.Path, list[st
         else:
             left[directory.name] = others
     if left:
-        asyncio.run(playing.abort(left))
+        with apart(playing.plan.folder.mark()):
+            asyncio.run(playing.abort(left))
 
 
 def set_all_aside(playing: Playing, faults: dict[str, str]) -> None:
@@ -330,7 +336,8 @@ def play(playing: Playing) -> dict[str, str]:
         # By default, there would be a thread for each process.
         asyncio.set_child_watcher(asyncio.PidfdChildWatcher())
     prepare(playing)
-    asyncio.run(playing.play_rounds())
+    with apart(playing.plan.folder.mark()):
+        asyncio.run(playing.play_rounds())
     matches = [match for match in playing.plan.matches if not match.withdrawn]
     missing = {match.id: match.again and f"its record does not count, and {match.again} still replaces it" for match in matches}
     return {match: playing.left.get(match) or why or NOT_BEGUN for match, why in missing.items() if match not in playing.results}

@@ -12,7 +12,8 @@ from ggp_tools.competition.competition_file import ROUND_KINDS, Competition, Mis
 from ggp_tools.printable import counted
 
 HEAD = "id\tgame\tstart\tplay\tplayers\n"
-MOST_MATCHES = 100_000
+# The maximum number of matches, and of bytes of a row with 1,000 players.
+MOST_MATCHES, MOST_OF_ROW = 100_000, 1 << 17
 # The number of letters and digits of a random id that are computed from the key: 60 bits.
 SECRET_LETTERS = 12
 # A row of schedule.tsv: the match, its game, its clocks, and the players.
@@ -139,10 +140,10 @@ def id_of(competition: Competition, number: int, width: int, key: bytes) -> str:
     return f"{counted}-{digest[:SECRET_LETTERS]}" if key else counted
 
 
-def matches_in(schedule: bytes, competition: Competition) -> list[Match]:
-    """Returns the matches of a file that `schedule_text` has written, without rows that are not matches of the competition."""
+def matches_in(schedule: Iterable[bytes], competition: Competition) -> list[Match]:
+    """Returns the matches in the rows of a schedule, without rows that are not matches of the competition."""
     games, names = {game.name for game in competition.games}, {player.name for player in competition.players}
-    rows = ([field.decode("ascii") for field in row.groups()] for line in schedule.splitlines()[1:] if (row := ROW.fullmatch(line)))
+    rows = ([field.decode("ascii") for field in row.groups()] for line in schedule if (row := ROW.fullmatch(line)))
     matches = [Match(match, game, int(start), int(play), tuple(players.split())) for match, game, start, play, players in rows]
     return [match for match in matches if match.game in games and names.issuperset(match.players)]
 
@@ -153,5 +154,10 @@ def id_in(line: bytes) -> str | None:
     return row[1].decode("ascii") if row else None
 
 
+def schedule_rows(matches: Iterable[Match]) -> Iterator[bytes]:
+    yield HEAD.encode("ascii")
+    yield from (match.line().encode("ascii") for match in matches)
+
+
 def schedule_text(matches: Iterable[Match]) -> bytes:
-    return (HEAD + "".join(match.line() for match in matches)).encode("ascii")
+    return b"".join(schedule_rows(matches))

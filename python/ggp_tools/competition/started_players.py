@@ -79,13 +79,14 @@ class StartedPlayer:
     def __init__(self, folder: Folder, player: Player, number: int, referee: Referee, reporter: Reporter) -> None:
         self.folder, self.name, self.command, self.number = folder, player.name, player.command, number
         self.referee, self.reporter, self.log = referee, reporter, PlayerLog(folder.players / f"{player.name}.log")
-        self.job, self.address, self.port, self.was_started = None, NOWHERE, 0, False
+        self.job, self.address, self.port, self.was_started, self.has_answered = None, NOWHERE, 0, False, False
         self.lock, self.matches, self.reported_lines = asyncio.Lock(), set(), []
         self.watching: asyncio.Task | None = None
         # The reason why the player is not running and will not be started again, if that is the case.
         self.over = ""
-        # The addresses of other players, by name. A launcher must not report any of them.
+        # The addresses of other players that a launcher must not report, by name. One player at a time compares its address with them.
         self.known: Callable[[], dict[str, str]] = dict
+        self.comparing = asyncio.Lock()
 
     def place(self) -> str:
         return f"{self.name}@{self.address}"
@@ -136,32 +137,46 @@ class StartedPlayer:
     async def came_up(self) -> str:
         """Starts the process, and waits until it answers INFO. If it does not, returns the reason, otherwise an empty text."""
         command, launcher = self.command, launcher_of(self.folder, self.name, self.command)
-        job = Job(self.log.take, self.log.take, "player", END_SECONDS)
-        self.job = job
+        job = self.job = Job(self.log.take, self.log.take, command.queue_seconds, END_SECONDS)
         job.start(launcher, {"words": [program_of(self.folder, self.command.words[0]), *command.words[1:]], "player": {
             "host": None if launcher else HERE, "port": self.port, "environment": dict(command.environment),
             "directory": str(self.folder.path.absolute() / command.directory), "memory": command.memory, "processors": command.processors, "number": self.number,
         }})
-        if await job.came_up():
-            self.address, until, pause = job.player.split()[-1], time.monotonic() + command.start_seconds, FIRST_PAUSE
-            self.port = int(self.address.rpartition(":")[2])
-            # A launcher runs on a computer that may be hostile, and must not redirect messages to another player.
-            if launcher and (other := await asyncio.to_thread(self.other_there)):
-                return f"it reported the address of {other}, {self.address}"
-            while not job.running.done() and (left := until - time.monotonic()) > 0:
-                if (await run(self.referee.info_words(self.place()), seconds=left)).status == 0 and job.status is None and not job.running.done():
-                    return ""
-                await asyncio.wait([job.running], timeout=min(pause, left))
-                pause = min(2 * pause, LONGEST_PAUSE)
+        if await job.reports(job.runs) and (why := await self.answers(job)) is not None:
+            return why
         if job.running.done():
             job.running.result()
             return words_of_end(job)
-        more = " or more `memory`" if command.memory else ""
-        return f"it did not answer INFO within {command.start_seconds} s; it may need more `start_seconds`{more}"
+        what, more = "answer INFO" if job.player else "report its address", " or more `memory`" if command.memory else ""
+        return f"it did not {what} within {command.start_seconds} s; it may need more `start_seconds`{more}"
 
-    def other_there(self) -> str:
-        """Returns the name of another player that is known to have the same address as this player, or an empty text."""
-        return next((name for name, address in self.known().items() if are_same(self.address, address)), "")
+    async def answers(self, job: Job) -> str | None:
+        """Waits until the player answers INFO. Returns an empty text then, the reason if its address is that of another player, or None if it has ended or
+        its time is over."""
+        until, pause = time.monotonic() + self.command.start_seconds, FIRST_PAUSE
+        if not await job.reports(job.has_player, self.command.start_seconds):
+            return None
+        self.address = job.player.split()[-1]
+        self.port = int(self.address.rpartition(":")[2])
+        if other := await self.other_there():
+            return other
+        while not job.running.done() and (left := until - time.monotonic()) > 0:
+            if (await run(self.referee.info_words(self.place()), seconds=left)).status == 0 and job.status is None and not job.running.done():
+                # Another player may have come up at this address meanwhile.
+                async with self.comparing:
+                    other = await self.other_there()
+                    self.has_answered = not other
+                return other
+            await asyncio.wait([job.running], timeout=min(pause, left))
+            pause = min(2 * pause, LONGEST_PAUSE)
+        return None
+
+    async def other_there(self) -> str:
+        """Returns an error if another player is known to be at the address that a launcher reported, or an empty text. The launcher's computer may be
+        hostile, and must not direct the messages to another player."""
+        known = self.known() if self.command.launcher else {}
+        names = await asyncio.to_thread(lambda: [name for name, address in known.items() if are_same(self.address, address)]) if known else []
+        return f"it reported the address of {names[0]}, {self.address}" if names else ""
 
     async def watch(self, job: Job) -> None:
         """Waits until the player ends by itself. Reports this for each match that it is playing. If there is none, reports it once."""
@@ -182,7 +197,7 @@ class StartedPlayer:
             self.watching.cancel()
         if self.job:
             await self.job.end()
-        self.job, self.address = None, NOWHERE
+        self.job, self.address, self.has_answered = None, NOWHERE, False
 
 
 def words_of_end(job: Job) -> str:
@@ -198,8 +213,9 @@ class StartedPlayers:
         self.addresses: dict[str, str] = {}
         players = [player for player in competition.players if player.command]
         self.players = {player.name: StartedPlayer(folder, player, number, referee, reporter) for number, player in enumerate(players)}
+        comparing = asyncio.Lock()
         for player in self.players.values():
-            player.known = self.known
+            player.known, player.comparing = self.known, comparing
 
     def of(self, names: tuple[str, ...]) -> list[StartedPlayer]:
         return [self.players[name] for name in names if name in self.players]
@@ -210,8 +226,9 @@ class StartedPlayers:
         return self.addresses.get(name) or self.competition.player(name).place()
 
     def known(self) -> dict[str, str]:
-        """Returns the addresses of the players, by name, except those that launchers reported."""
-        started = {name: player.address for name, player in self.players.items() if player.is_running() and not player.command.launcher}
+        """Returns the addresses of the players, by name. That of a player with a launcher counts once the player has answered there."""
+        running = [player for player in self.players.values() if player.is_running()]
+        started = {player.name: player.address for player in running if player.has_answered or not player.command.launcher}
         return {player.name: player.address for player in self.competition.players if not player.command} | started
 
     async def ready(self, match: str, names: tuple[str, ...]) -> None:

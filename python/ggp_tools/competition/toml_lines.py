@@ -22,8 +22,8 @@ KEY = re.compile(r"\s*([A-Za-z0-9_-]+)")
 
 # The time in which Python's parser reads a dotted key grows with the square of the number of dots, so more dots than this are refused.
 MOST_DOTS = 100
-# Each key, table and member of an array has one of these signs. Because each value takes memory, a file may have only this many signs,
-# which suffices for the longest schedule and the maximum number of players.
+# Each key, table and member of an array has one of these characters. Because each value takes memory, a file may have only this many of them. They
+# suffice for the longest schedule and the maximum number of players.
 SIGNS, MOST_SIGNS = frozenset("=,["), 150_000
 
 
@@ -51,8 +51,8 @@ def read_toml(text: str) -> tuple[dict, dict[Path, int]]:
 
 
 def refuse_too_many(text: str) -> None:
-    """Refuses a text that has more dots between two punctuation marks than a key may have, or more signs than a file may have. Only the
-    text before the first unfinished string is checked, because Python's parser stops there."""
+    """Refuses a text that has more dots between two punctuation marks than a key may have, or more of the characters SIGNS than a file may have.
+    Python's parser reads no further than the first unfinished string."""
     line, dots, signs, end = 1, 0, 0, 0
     for token in TOKEN.finditer(text):
         if text[end : token.start()].strip():
@@ -61,7 +61,7 @@ def refuse_too_many(text: str) -> None:
         dots = 0 if word in PUNCTUATION else dots + word.count(".") * (word[0] not in "\"'#")
         signs += word in SIGNS
         if dots > MOST_DOTS or signs > MOST_SIGNS:
-            what = f"{MOST_DOTS} dots" if dots > MOST_DOTS else f"{MOST_SIGNS:,} signs `=`, `,` and `[`"
+            what = f"{MOST_DOTS} dots" if dots > MOST_DOTS else f"{MOST_SIGNS:,} characters `=`, `,` and `[`"
             raise TomlFault(line, "", f"there are more than {what} outside of texts and comments")
         line += word.count("\n")
 

@@ -80,8 +80,7 @@ def has_variables(text: bytes) -> bool:
 
 def run_module(name: str, *words: str, data: bytes | None = None) -> subprocess.CompletedProcess:
     """Runs a module of this package as a command."""
-    command, environment = [sys.executable, "-B", "-P", "-m", f"ggp_tools.{name}", *words], {**os.environ, "PYTHONPATH": str(FOLDER)}
-    return run_whole(command, env=environment, input=data)
+    return run_whole([sys.executable, "-B", "-P", "-m", f"ggp_tools.{name}", *words], env={"PYTHONPATH": str(FOLDER)}, input=data)
 
 
 def why_not(made: subprocess.CompletedProcess) -> str:

@@ -136,7 +136,7 @@ class Grounder:
         if status == -signal.SIGXCPU:
             raise TooSlow(f"gringo took more than {self.seconds:g} s")
         if "bad_alloc" in errors or status < 0:
-            raise Refused(f"gringo took {MEMORY >> 30} GiB")
+            raise Refused(f"gringo ran out of memory: its limit is {MEMORY >> 30} GiB")
         if status:
             raise Refused(f"gringo refuses it: {' '.join(errors.split())[:300]}")
         return instances

@@ -23,9 +23,10 @@ from ggp_tools.streams import STANDARD_INPUT, Ended, opened, report, say, status
 COMMAND = "ggp-explain-record"
 ABOUT = (
     "Explains why a record is not lawful: what was expected, and what was found. If the record is lawful, it prints `lawful`. Otherwise it prints "
-    "the error in the referee's words, and an explanation below it. Turns are counted from 1, and roles have their names. An interpreter that shares "
-    "no code with the referee computes what was expected. If the interpreter finds a different error first, this is reported. With --lines each line "
-    "is a record. Those that are not lawful are printed, with the number of the line and an explanation. Lines of call logs are skipped."
+    "the error in the referee's words, and an explanation below it. Turns are counted from 1, and roles are given by name. An interpreter that "
+    "shares no code with the referee computes what was expected. If the interpreter finds a different error first, the command reports this. With "
+    "--lines, each line is a record. The command prints those that are not lawful, with the number of the line and an explanation, and skips the lines "
+    "of call logs."
 )
 STATUS = "status 0: all records are lawful. 1: at least one is not. 2: usage error. 3: there is no verdict."
 MOST_LISTED, MOST_OF_TEXT = 20, 400
@@ -159,7 +160,7 @@ class Replay(Match):
         if recorded in ends:
             return None
         known = {"starting": f"a START mark is missing after {counted(len(self.moves), 'turn')}", "playing": "the match can go on"}.get(phase) or self.why(cause)
-        lines = [", or ".join(end_words(*end, self.names) for end in group) or "other marks or turns, because no phase has these" for group in (ends, [recorded])]
+        lines = [", or ".join(end_words(*end, self.names) for end in group) or "other marks or turns: no phase allows these" for group in (ends, [recorded])]
         sentence = f"At the end {known}, and {count} of {counted(len(self.names), 'role')} {'has' if count == 1 else 'have'} an end mark."
         return ("end", sentence, f"expected: {lines[0]}", f"found: {lines[1]}")
 

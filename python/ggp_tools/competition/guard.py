@@ -1,0 +1,48 @@
+"""Ends the programs that `play` runs when `play` has ended, even if it was killed. It needs only Python's standard library.
+
+Each program that `play` runs has a mark in its environment, and passes it on to what it starts. The input of this program ends with `play`, and after the
+programs that `play` was starting at that moment have begun."""
+
+import contextlib
+import os
+import pathlib
+import signal
+import sys
+import time
+
+MARK = "GGP_COMPETITION_PLAY"
+# A killed process may need this many seconds to end. Between two searches there is a pause.
+END_SECONDS, PAUSE = 15, 0.01
+
+
+def marked(value: str) -> list[int]:
+    """Returns the processes whose mark has this value."""
+    mark, found = os.fsencode(f"{MARK}={value}"), []
+    for file in pathlib.Path("/proc").glob("[0-9]*/environ"):
+        # The environments of other users' processes can't be read.
+        with contextlib.suppress(OSError):
+            if mark in file.read_bytes().split(b"\0"):
+                found.append(int(file.parent.name))
+    return found
+
+
+def end_marked(value: str) -> None:
+    """Kills the processes whose mark has this value, and those that they start meanwhile."""
+    until = time.monotonic() + END_SECONDS
+    while (found := marked(value)) and time.monotonic() < until:
+        for process in found:
+            with contextlib.suppress(ProcessLookupError):
+                os.kill(process, signal.SIGKILL)
+        time.sleep(PAUSE)
+
+
+def main() -> None:
+    for number in (signal.SIGINT, signal.SIGTERM, signal.SIGHUP):
+        signal.signal(number, signal.SIG_IGN)
+    while os.read(0, 1 << 16):
+        pass
+    end_marked(sys.argv[1])
+
+
+if __name__ == "__main__":
+    main()
