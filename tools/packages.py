@@ -101,7 +101,7 @@ def no_services(policy: str = POLICY) -> Iterator[None]:
 
 
 def error_of(command: Sequence[str]) -> str:
-    """Runs a command of apt-get. Returns its output if it failed, else an empty text."""
+    """Runs a command of apt-get. If it fails, returns its output, otherwise an empty text."""
     how = {"stdin": subprocess.DEVNULL, "stdout": subprocess.PIPE, "stderr": subprocess.STDOUT, "text": True, "errors": "replace"}
     done = subprocess.run(command, env={**os.environ, "DEBIAN_FRONTEND": "noninteractive"}, **how)
     return f"{done.stdout}needs: {' '.join(command)}: status {done.returncode}\n" if done.returncode else ""

@@ -29,7 +29,7 @@ def is_program(name: str) -> bool:
 
 
 def files_of(crate: str) -> Iterator[str]:
-    """Yields the paths of a crate's sources and definitions, from its directory."""
+    """Yields the paths of a crate's sources and definitions, relative to its directory."""
     for part in ("src", "specs"):
         for at, _, files in os.walk(f"{crate}/{part}"):
             yield from (os.path.relpath(f"{at}/{file}", crate) for file in sorted(files))

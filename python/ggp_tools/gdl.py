@@ -155,8 +155,8 @@ def parted(sentence: Expression) -> tuple[Expression, Expression]:
 
 
 def rules_of(number: int, sentence: Expression, names: Iterator[str]) -> list[Rule]:
-    """Returns the rules of one sentence. If there are too many ways to satisfy its `or`s, each `or` that allows it becomes a relation with
-    one of these names."""
+    """Returns the rules of one sentence. If there are too many ways to satisfy its `or`s, each `or` for which this is possible becomes a
+    relation with one of these names."""
     head, body = parted(sentence)
     ways, rules = [ways_of(literal) for literal in body], []
     if math.prod(map(len, ways)) > FEW_WAYS:

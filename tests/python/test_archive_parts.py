@@ -126,7 +126,7 @@ class Checked(Made):
             (lambda files: packed({**files, "cup/accounts/cup-004.txt": b"a"}), "accounts/cup-004.txt is not part of this competition"),
             (lambda files: packed({**files, "cup/records/cup-004.json": b"a"}), "records/cup-004.json: it belongs to no match of the schedule"),
             (lambda files: packed({**files, "cup/play.log": b"2026\n"}), None),
-            (changed("cup/VERSION", lambda _: b"ggp_manager 1.2.3"), "VERSION is not one line `ggp_manager N.N.N`"),
+            (changed("cup/VERSION", lambda _: b"ggp_manager 1.2.3"), "VERSION is not one line of the form `ggp_manager N.N.N`"),
             (without("cup/VERSION"), "VERSION is missing"),
             (without("cup/CHECK.txt"), "CHECK.txt is missing"),
             (changed("cup/CHECK.txt", more), "CHECK.txt does not follow from the records"),
@@ -281,7 +281,7 @@ class Checked(Made):
             self.assertLess(file.stat().st_size, 1 << 20, file)
             return read(file)
 
-        for name, fault in (("VERSION", "VERSION is not one line `ggp_manager N.N.N`"), ("table.txt", "table.txt does not follow from the records"), ("pages/index.html", "pages/index.html does not follow from the records")):
+        for name, fault in (("VERSION", "VERSION is not one line of the form `ggp_manager N.N.N`"), ("table.txt", "table.txt does not follow from the records"), ("pages/index.html", "pages/index.html does not follow from the records")):
             data = packed({**files, f"cup/{name}": bytes(1 << 20)})
             with mock.patch("pathlib.Path.read_bytes", small):
                 self.assertEqual(self.check(data)[0], [fault])

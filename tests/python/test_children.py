@@ -56,7 +56,7 @@ def test_a_job_that_runs_and_is_silent_is_lost(monkeypatch):
     monkeypatch.setattr(jobs, "LOST_SECONDS", 1)
     job = ran(f"{NODE}sys.stdin.read()")
     # The process ends when its input is closed.
-    assert (job.why, job.node, job.status, job.process.returncode, job.goes_on) == ("nothing was heard from it for 1 s", "n1", None, 0, False)
+    assert (job.why, job.node, job.status, job.process.returncode, job.goes_on) == ("it sent nothing for 1 s", "n1", None, 0, False)
 
 
 def test_a_job_that_waits_in_a_queue_may_be_silent(monkeypatch):

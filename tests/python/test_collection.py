@@ -147,7 +147,7 @@ class Piles(InFolder):
                 self.assertEqual([(judged.line.number, judged.is_lawful) for judged in found], [(at + 1, at % 2 == 0) for at in range(40)])
 
     def test_an_output_is_made_in_its_own_directory(self):
-        # The directory for temporary files may be on another file system, to which no file can be renamed.
+        # A file cannot be renamed to another file system, and the directory for temporary files may be on one.
         with made_whole(self.folder / "output") as made:
             self.assertEqual(made.parent.parent, self.folder)
             made.write_bytes(b"made")

@@ -216,7 +216,7 @@ class Lines(unittest.TestCase):
         )
         for old, new in others:
             self.assertIn(old, LOG)
-            self.assert_unknown("its log is that of another match: role ", BROKEN, LOG.replace(old, new))
+            self.assert_unknown("its log belongs to another match: role ", BROKEN, LOG.replace(old, new))
         answered = LOG.replace('"answer":null,"error":"CE","reason":"no host"', '"answer":"noop","error":null,"reason":null')
         self.assert_unknown("has an answer where the record has CE: role 1, message 2", BROKEN, answered)
 

@@ -160,7 +160,7 @@ class CompetitionFile(unittest.TestCase):
         for kind in ('"swiss"\nrounds = 3', '"knockout"'):
             self.assertEqual(mistakes_of(toml(PLAYERS, GAMES, f"kind = {kind}").encode()), [])
             found = mistakes_of(toml(PLAYERS, GAMES, f"kind = {kind}", 'order = "goals"').encode())
-            self.assertEqual(found, [(2, "order", f"the kind {kind.split(chr(34))[1]} has its own order")])
+            self.assertEqual(found, [(2, "order", f"the kind {kind.split(chr(34))[1]} determines the order, so this key is not allowed")])
         found = mistakes_of(toml(PLAYERS, GAMES, 'kind = "knockout"', 'withdrawn_results = "void"').encode())
         self.assertEqual(found, [(2, "withdrawn_results", "a knockout can't have \"void\": the matches that a withdrawn player has won must count, since other players have lost them")])
 

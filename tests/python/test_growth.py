@@ -93,7 +93,7 @@ class Growth(unittest.TestCase):
         for again, words in (
             ([Again("cup-005", "cup-009", "x")], "cup-005 replaces cup-009, which is not a match that counts"),
             ([Again("cup-005", "cup-001", "x"), Again("cup-006", "cup-001", "x")], "cup-006 replaces cup-001, which is not a match that counts"),
-            ([Again("cup-007", "cup-001", "x")], "cup-007, which was ordered again, is not the next match"),
+            ([Again("cup-007", "cup-001", "x")], "the rematch cup-007 is not the next match of the schedule"),
         ):
             self.assertEqual(str(raised(Misfit, self.grown, competition(2), again=again)), words)
 
@@ -181,7 +181,7 @@ class Growth(unittest.TestCase):
         orders = Again("cup-007", "cup-001", "x"), Again("cup-009", "cup-002", "x")
         games = ("three", "more")
         for history, after, words in (
-            (History((), orders), competition(2), "cup-007, which was ordered again, is not the next match"),
+            (History((), orders), competition(2), "the rematch cup-007 is not the next match of the schedule"),
             (History(((8, competition(4, 1, games)),)), competition(5, 2, games), "more has more than two roles, so add rounds and players separately"),
             (History(((9, competition(3)),)), competition(3, head="strikes = 1"), "strikes was 0 and is now 1"),
         ):

@@ -176,7 +176,7 @@ class Launched(InFolder):
         self.planned('[ -e $folder/lost ] && exec "$@"; touch $folder/lost; echo "ggp_competition: node n1" >&2; exec sleep 6000')
         playing = self.started_with("open_match.SILENCE = 0.5; jobs.LOST_SECONDS = 20", program())
         out, said = playing.communicate(timeout=800)
-        self.assertEqual((playing.returncode, said, lines(out, "lost")), (0, "", ["lost cup-001 on n1: nothing was heard from it for 20 s"]), out)
+        self.assertEqual((playing.returncode, said, lines(out, "lost")), (0, "", ["lost cup-001 on n1: it sent nothing for 20 s"]), out)
         self.assert_sound(self.schedule)
 
     def test_a_referee_that_fails_costs_its_match(self):

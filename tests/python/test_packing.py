@@ -56,7 +56,7 @@ def block(name, kind=tarfile.REGTYPE, data=b"", change=None, form=tarfile.USTAR_
 
 
 def at(place, data):
-    """Returns a change of a header."""
+    """Returns a function that writes these bytes at a position of a header."""
 
     def change(header):
         header[place : place + len(data)] = data

@@ -1,4 +1,4 @@
-"""The pages of 300 matches: each link leads to an existing page, and names and rules appear as text."""
+"""The pages of 300 matches. Each link leads to an existing page, and names and rules appear as text."""
 
 import json
 import os

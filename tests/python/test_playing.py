@@ -143,7 +143,7 @@ class Going(WithMatches):
 
         self.begin(at_once=1)
         self.playing.watch = watch
-        # The last match ends after the results of the others were passed on.
+        # The last match ends after the results of the other matches have been passed on.
         self.go(cup_012=["playing", lambda match: again.wait(600), won])
         self.assertEqual((watched[0][0] > 0, {is_main for _, is_main in watched}, self.reporter.lines), (True, {False}, ["pages are not written"]))
 

@@ -548,7 +548,7 @@ class Delayed(Served):
         log = begin(self.plan, match, started(match, time_of_day) + self.play(match, 2, "NIL", ["(take 2)", "noop"], time_of_day))
         self.assertEqual(self.look_at(1), ("0 matches are open", "0 of 6"))
         self.assertEqual(self.look_at(58), ("0 matches are open", "0 of 6"))
-        # The match is over before the pages show anything of it.
+        # The match is over before the pages show any part of it.
         lines = self.play(match, 3, "((take 2) noop)", ["noop", "(take 1)"], time_of_day)
         end(self.plan, match, record_of(match, [["(take 2)", "noop"], ["noop", "(take 1)"]], [["", ""]] * 2, [0, 100]), log.read_text() + lines)
         moment = self.moment if time_of_day is None else time_of_day / 1_000

@@ -397,7 +397,7 @@ def test_a_launched_player_whose_node_is_lost_is_reported(tmp_path, monkeypatch)
         await ann.watching
 
     asyncio.run(play())
-    assert ann.reporter.lines == ["died cup-001 ann: nothing was heard from it for 1 s"]
+    assert ann.reporter.lines == ["died cup-001 ann: it sent nothing for 1 s"]
 
 
 # ---- memory

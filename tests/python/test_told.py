@@ -122,7 +122,7 @@ class Told(InFolder):
         self.assertIn(words, out)
         self.assertIn("gives 100; it is kept as ", out)
         report = self.folder / f"report-{first}.tar.gz"
-        self.assertIn(f"please report it, with {report.name}", out.replace(f"{self.folder}/", "").replace("./", ""))
+        self.assertIn(f"please report this, and include {report.name}", out.replace(f"{self.folder}/", "").replace("./", ""))
         names = "account.txt", "description.kif", "record.json", "rules.kif", "words.txt"
         with tarfile.open(report) as archive:
             self.assertEqual(sorted(archive.getnames()), [f"{first}/{name}" for name in names])

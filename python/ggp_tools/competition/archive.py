@@ -184,7 +184,7 @@ def version_of(folder: pathlib.Path) -> str:
     """Returns the version of the program with which an archive was published. Refuses an archive whose logs only an earlier version can read."""
     version = file_bytes(folder / VERSION, MOST_OF_VERSION) if (folder / VERSION).is_file() else b""
     if not VERSION_LINE.fullmatch(version):
-        raise Spoilt(f"{VERSION} is not one line `ggp_manager N.N.N`" if version else f"{VERSION} is missing")
+        raise Spoilt(f"{VERSION} is not one line of the form `ggp_manager N.N.N`" if version else f"{VERSION} is missing")
     made_by = version.decode("ascii").strip()
     if not has_events(version):
         raise Spoilt(f"it was published with {made_by}: check it with that version, since its logs are not JSON")

@@ -29,7 +29,7 @@ ANSWER = re.compile(rb"(\d+)\t(submit|miss) ([^ \t]+) (\d+) (\d+)(?: ([^\t]*))?\
 MOST_HOLDS = 300
 # The history of the referee's desk has at most this many calls.
 MOST_CALLS = 1_000_000
-# Any call. The group is the id of its match.
+# Matches any call. The group is the id of the call's match.
 MATCH = re.compile(rb"\d+\t[a-z]+ ([^ \t]+)[ \t]")
 ESCAPED = re.compile(r"\\x([0-9a-f]{2})")
 # The parts of the reasons that the referee gives for an error (docs/ERRORS.md), with N in place of each number. After a failed read, one

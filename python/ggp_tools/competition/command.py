@@ -62,7 +62,7 @@ def add_options(command: argparse.ArgumentParser, name: str) -> None:
         add("folder", nargs="?", default=".", metavar="DIRECTORY", help=DIRECTORY)
     if name == "again":
         add("match", metavar="MATCH", help="the id of a match that has a lawful record")
-        add("--reason", required=True, metavar="TEXT", help="the reason, for the table, the pages and the archive")
+        add("--reason", required=True, metavar="TEXT", help="the reason, which the table, the pages and the archive show")
     if name == "plan":
         add("--preview", action="store_true", help="print the matches that it would add, or those of the next round, and write nothing")
     if name == "play":

@@ -301,8 +301,8 @@ class Game:
 
 @dataclass(frozen=True)
 class Command:
-    """How the competition starts a player. In the command and in the environment, `{port}` is replaced with the port of the player. Without a
-    launcher, the player runs on this computer. A `memory` or `processors` of 0 sets no limit."""
+    """How the competition starts a player. In the command and in the environment, `{port}` is replaced with the port of the player. Without
+    a launcher, the player runs on this computer. If `memory` or `processors` is 0, there is no such limit."""
 
     words: tuple[str, ...] = read_by(Section.words, "the program, then its arguments", key="command")
     launcher: tuple[str, ...] = read_by(Section.words, RUNS_ELSEWHERE, False)
@@ -524,7 +524,7 @@ def read_competition(data: bytes) -> Competition:
     found = root.read(Competition, **clocks, form=form_of(root), games=games_of(root, clocks), players=players_of(root), lines=root.lines)
     kind = found.form.kind
     if "order" in root.table and kind in ROUND_KINDS:
-        root.mistake("order", f"the kind {kind} has its own order")
+        root.mistake("order", f"the kind {kind} determines the order, so this key is not allowed")
     for key in ("absent_rounds", "pause") if kind not in ROUND_KINDS else ():
         if key in root.table:
             root.mistake(key, f"only the kinds {' and '.join(ROUND_KINDS)} have this key")

@@ -231,5 +231,5 @@ def grown(history: History, competition: Competition, roles: Mapping[str, int], 
         before = version
     growing.leave_out(competition)
     if growing.again:
-        raise Misfit(f"{min(growing.again)}, which was ordered again, is not the next match")
+        raise Misfit(f"the rematch {min(growing.again)} is not the next match of the schedule")
     return growing

@@ -13,7 +13,7 @@ from ggp_tools.competition.job import BEAT, OURS
 from ggp_tools.match_log import LONGEST_LINE
 from ggp_tools.printable import printable
 
-SILENT, LONG = "nothing was heard from it for {:.0f} s", "it sent a line of more than {:,} bytes"
+SILENT, LONG = "it sent nothing for {:.0f} s", "it sent a line of more than {:,} bytes"
 NOT_RUN = "its launcher did not run it within {:,} s; it may need more `queue_seconds`"
 NO_PLAYER = "it sent {!r} instead of the player's process and address"
 # After a job has ended, its output is read only for this many seconds, because a process that the job left behind may keep the pipe open.

@@ -82,7 +82,7 @@ class StartedPlayer:
         self.job, self.address, self.port, self.was_started, self.has_answered = None, NOWHERE, 0, False, False
         self.lock, self.matches, self.reported_lines = asyncio.Lock(), set(), []
         self.watching: asyncio.Task | None = None
-        # If the player is not running and is not started again, the reason for this.
+        # The reason why the player is not running and will not be started again, if that is the case.
         self.over = ""
         # The addresses of other players that a launcher must not report, by name. One player at a time compares its address with them.
         self.known: Callable[[], dict[str, str]] = dict

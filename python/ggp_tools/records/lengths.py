@@ -10,8 +10,8 @@ from ggp_tools.kif import Expression, expressions, head_of, spelled
 USUAL_RECORD = 16 << 20
 # The longest call log that `replay` accepts.
 LONGEST_ACCOUNT = 256 << 20
-# The maximum number of turns; and how many bytes a player's answers may have in total, where each answer counts only with its bytes above
-# USUAL_ANSWER, or above the longest legal move if that is longer.
+# The maximum number of turns. The normal length of an answer is USUAL_ANSWER, or the length of the longest legal move. In total, the
+# answers of a player may have BUDGET bytes more than that.
 MOST_TURNS, BUDGET, USUAL_ANSWER = 10_000, 1 << 20, 64
 # The bytes before and after the states of a record. No string contains these bytes, because quotes are escaped.
 STATES, AFTER_STATES = b'"states":[', b'],"strikes":'
