@@ -1,5 +1,6 @@
 """Parses KIF. An atom becomes a string, and a list becomes a tuple. `Refused` says why a description is refused."""
 
+import math
 import re
 from collections.abc import Callable, Collection, Hashable, Iterable, Iterator
 from typing import TypeVar
@@ -52,9 +53,9 @@ def advice_for_bytes(text: str) -> str:
     return next((advice for head, advice in FILE_HEADS.items() if text.startswith(head)), "write it in ASCII, or in a comment")
 
 
-def tokens(text: str, takes_bytes: bool = False) -> Iterator[tuple[str, int, int]]:
-    """Yields each parenthesis and each atom of a text, with its index and the number of lists that contain it. Refuses a text that is not
-    KIF. With `takes_bytes`, any bytes are allowed, because a message must be able to quote them."""
+def tokens(text: str, most_levels: float = math.inf, takes_bytes: bool = False) -> Iterator[tuple[str, int, int]]:
+    """Yields each parenthesis and each atom of a text, with its index and the number of lists that contain it. Refuses a text that is not KIF, and lists
+    that are nested more than `most_levels` deep. With `takes_bytes` any bytes are allowed, for messages."""
     text = blanked(text)
     if not takes_bytes and (bad := NO_CHARACTER.search(text)):
         raise KifFault(f"a byte that is not a character of KIF: {bad[0]!r}", bad.start(), advice_for_bytes(text))
@@ -66,6 +67,8 @@ def tokens(text: str, takes_bytes: bool = False) -> Iterator[tuple[str, int, int
             opened.pop()
         yield token[0], token.start(), len(opened)
         if token[0] == "(":
+            if len(opened) == most_levels:
+                raise KifFault(f"lists are nested more than {most_levels} deep", token.start())
             opened.append(token.start())
     if opened:
         raise KifFault("a list that is not closed", opened[-1], "add a `)`")
@@ -73,17 +76,16 @@ def tokens(text: str, takes_bytes: bool = False) -> Iterator[tuple[str, int, int
 
 def expressions(text: str, most_levels: float = MOST_LEVELS, takes_bytes: bool = False) -> list[Expression]:
     """Parses the expressions of a text, in lower case. Refuses lists that are nested more than `most_levels` deep."""
-    levels = [[]]
-    for token, index, around in tokens(text, takes_bytes):
+    # Equal atoms share one object, because a description repeats most of its atoms many times.
+    levels, known = [[]], {}
+    for token, _, _ in tokens(text, most_levels, takes_bytes):
         if token == "(":
-            if around == most_levels:
-                raise KifFault(f"lists are nested more than {most_levels} deep", index)
             levels.append([])
         elif token == ")":
             closed = tuple(levels.pop())
             levels[-1].append(closed)
         else:
-            levels[-1].append(token.lower())
+            levels[-1].append(known.get(token) or known.setdefault(token, token.lower()))
     return levels[0]
 
 
@@ -91,9 +93,9 @@ def has_variables(text: str) -> bool:
     return VARIABLE.search(blanked(text)) is not None
 
 
-def starts(text: str) -> list[int]:
+def starts(text: str, most_levels: float = math.inf, takes_bytes: bool = False) -> list[int]:
     """Returns the index at which each expression of a text begins."""
-    return [index for token, index, around in tokens(text) if not around and token != ")"]
+    return [index for token, index, around in tokens(text, most_levels, takes_bytes) if not around and token != ")"]
 
 
 def place_of(text: str, index: int) -> str:

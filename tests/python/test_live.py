@@ -16,6 +16,7 @@ from ggp_tools.competition.live_board import NO_LINE, NO_VERDICT, TOO_LONG, Live
 from ggp_tools.competition.live_pages import now_part, open_row, replaced_part, state_html, turn_row
 from ggp_tools.competition.open_match import leave_players
 from ggp_tools.competition.schedule import Match
+from ggp_tools.competition.tail import Extent
 from ggp_tools.kif import expressions
 from ggp_tools.match_log import Message, event_of
 from ggp_tools.records import show
@@ -105,6 +106,15 @@ class Lines(InRoom):
         self.assertNotEqual(before[self.match.id], after[self.match.id])
         self.assertIs(before[other.id], after[other.id])
         self.assertIs(reader.read_open_files(), after)
+
+    def test_a_long_delay_keeps_few_snapshots(self):
+        delay = Delay(3_600)
+        for moment in range(10_000):
+            with patch.object(live, "clock", lambda: float(moment)):
+                shown = delay.snapshot({}, Extent(moment), True)
+                self.assertLess(len(delay.snapshots), 603)
+            if moment > 3_600:
+                self.assertIn(moment - shown.journal.size, range(3_600, 3_607))
 
     def test_whom_a_match_waits_for(self):
         log, reader = begin(self.plan, self.match), self.reader()

@@ -463,6 +463,25 @@ class Pages(Served):
         self.assertIn("bob was restarted once", self.page("/"))
         self.assertNotIn("ann was restarted", self.page("/"))
 
+    def test_an_open_match_that_no_plan_has_may_be_that_of_any_player(self):
+        """While a new plan cannot be read, nothing is shown that a silent or dead player in an open turn of its matches would explain."""
+        players = tuple(dataclasses.replace(player, command=Mock(restart=WHEN_DEAD)) for player in self.plan.competition.players)
+        self.plan.competition = dataclasses.replace(self.plan.competition, players=players)
+        unknown, asking, given_up, other = self.plan.matches[:4]
+        self.plan.matches = self.plan.matches[1:]
+        self.site = self.server.site = LiveSite(self.plan, Referee(program()), lambda: self.plan)
+        log = begin(self.plan, unknown)
+        (self.plan.folder.open / asking.id).mkdir()
+        (self.plan.folder.open / asking.id / "asking").touch()
+        self.write_journal([f"no record {given_up.id}: ann is silent", f"restart {other.id} bob: process 7, port 8"])
+        shown = []
+        for _ in range(2):
+            self.look()
+            first = self.page("/")
+            shown.append([text in first for text in ("1 match is open", "ann is silent", "bob was restarted")])
+            shutil.rmtree(log.parent, ignore_errors=True)
+        self.assertEqual(shown, [[False] * 3, [True] * 3])
+
     def test_a_turn_that_was_broken_off_counts_as_open(self):
         """The match may begin again, and then the players do not know yet who was dead."""
         match, other = self.plan.matches[:2]

@@ -70,7 +70,7 @@ def test_a_player_gets_its_port_its_directory_and_its_environment(tmp_path):
     said = (tmp_path / "players/ann.log").read_text()
     assert said == f"{ann.port} at {ann.port} {tmp_path}/inside\n"
     assert (ann.reporter.notes, ann.reporter.lines) == ([f"start cup-001 ann: process {process}, port {ann.port}"], [])
-    assert (tmp_path / "players/ann.log").stat().st_mode & 0o777 == 0o600
+    assert [(tmp_path / name).stat().st_mode & 0o777 for name in ("players", "players/ann.log")] == [0o700, 0o600]
 
 
 def test_it_is_limited(tmp_path):

@@ -254,10 +254,11 @@ class Folder:
             raise Refused(f"{self.path.absolute()}: the path of a competition must be UTF-8, because the referee accepts no other") from None
 
     def make(self, *folders: pathlib.Path) -> None:
-        """Creates missing directories, and waits until they are on the disk. Only the owner can read the directory of open matches."""
+        """Creates missing directories, and waits until they are on the disk, like the files in them. Only the owner can read the directory of open
+        matches, and a new one of players: their logs may grow with each answer."""
         for folder in (self.path, *folders):
             if not folder.is_dir():
-                folder.mkdir(parents=True, exist_ok=True)
+                folder.mkdir(0o700 if folder == self.players else 0o777, parents=True, exist_ok=True)
                 sync(folder.parent)
             if folder == self.open:
                 folder.chmod(0o700)

@@ -94,11 +94,11 @@ def hold(holding: Holding, lines: Iterable[str], limit: float) -> Iterator[tuple
         yield result
 
 
-def limit_memory() -> None:
+def limit_memory(kind: int = resource.RLIMIT_AS) -> None:
     """Limits the memory of this process, unless there is already a lower limit."""
-    soft, hard = resource.getrlimit(resource.RLIMIT_AS)
+    soft, hard = resource.getrlimit(kind)
     most = min([MEMORY, *(limit for limit in (soft, hard) if limit != resource.RLIM_INFINITY)])
-    resource.setrlimit(resource.RLIMIT_AS, (most, hard))
+    resource.setrlimit(kind, (most, hard))
 
 
 def records_in(files: Iterable[str]) -> Iterator[bytes]:
