@@ -381,6 +381,14 @@ class ByRounds(unittest.TestCase):
             self.folder.again.write_bytes(self.folder.again.read_bytes() + again_text((Again("cup-010", "cup-002", "x"),)).splitlines(True)[1])
             self.assert_refused(late)
 
+    def test_the_seeds_are_those_of_the_other_table_until_a_match_is_played(self):
+        self.write(2, 'kind = "knockout"', 'seeds = "other.csv"')
+        for first, last, pair in (("p1", "p0", ("p1", "p0")), ("p0", "p1", ("p0", "p1")), ("p1", "p0", ("p0", "p1"))):
+            (self.folder.path / "other.csv").write_text(f"game,player\nall games,{first}\nall games,{last}\n")
+            plan = self.make()
+            self.assertEqual((plan.matches[0].players, self.read().matches), (pair, plan.matches))
+            _ = self.play(plan) if first == "p0" else None
+
     def test_the_schedule_is_written_last(self):
         self.write(2, SWISS.format(2), 'ids = "random"')
         with mock.patch("ggp_tools.competition.plan.write_whole") as written:
