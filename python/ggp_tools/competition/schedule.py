@@ -141,7 +141,7 @@ def id_of(competition: Competition, number: int, width: int, key: bytes) -> str:
 def matches_in(schedule: bytes, competition: Competition) -> list[Match]:
     """Returns the matches of a file that `schedule_text` has written, without rows that are not matches of the competition."""
     games, names = {game.name for game in competition.games}, {player.name for player in competition.players}
-    rows = ([field.decode("ascii") for field in row.groups()] for line in schedule.splitlines()[1:] if (row := ROW.fullmatch(line)))
+    rows = ([field.decode("ascii") for field in row.groups()] for line in schedule.splitlines() if (row := ROW.fullmatch(line)))
     matches = [Match(match, game, int(start), int(play), tuple(players.split())) for match, game, start, play, players in rows]
     return [match for match in matches if match.game in games and names.issuperset(match.players)]
 
