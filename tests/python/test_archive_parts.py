@@ -163,6 +163,9 @@ class Checked(Made):
         self.publish()
         self.referee.wrong = {b'"cup-002"': "not lawful: goals"}
         self.assertEqual(self.check()[0], ["cup-002: not lawful: goals"])
+        self.referee.wrong = {}
+        other = changed("cup/records/cup-001.json", lambda data: data.replace(b'"startClock": 5', b'"startClock": 7'))
+        self.assertEqual(self.check(other(files_of(self.path)))[0], ["cup-001: its startClock is 7, but the schedule has 5"])
         self.referee.unchecked = "`ggp_manager verify` gave no verdict for {}: it printed nothing, status 3"
         why = raised(Unchecked, self.check)
         self.assertEqual(str(why), "`ggp_manager verify` gave no verdict for cup/rules/heap.kif: it printed nothing, status 3")
