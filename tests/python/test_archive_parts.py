@@ -273,8 +273,9 @@ class Checked(Made):
         lines = [f"error {number}" for number in range(5_000)]
         with mock.patch.object(archive, "unpack", side_effect=Spoilt("\n".join(["x" * 3_000_000, *lines]))):
             self.assertEqual(self.check(), (["x" * 1_000 + "..", *lines[:99], "there are 4,901 more errors"], ""))
-        with mock.patch.object(archive, "what_is_right", side_effect=Spoilt("\n".join(lines[:101]))):
-            self.assertEqual(self.check()[0][-1], "there is 1 more error")
+        for count, more in ((100, []), (101, ["there is 1 more error"])):
+            with mock.patch.object(archive, "what_is_right", side_effect=Spoilt("\n".join(lines[:count]))):
+                self.assertEqual(self.check()[0], [*lines[:100], *more])
 
     def test_a_huge_file_is_not_read(self):
         self.publish()
