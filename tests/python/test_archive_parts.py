@@ -202,13 +202,16 @@ class Checked(Made):
         self.assertEqual(files_of(self.path)["cup/play.log"], b"2026\n")
 
     def test_what_is_of_its_history_is_in_the_archive(self):
-        folder = self.plan.folder
+        folder, planned = self.plan.folder, self.plan.text
+        folder.competition.write_bytes(b"wait = 3\n" + planned)
+        self.plan = read_plan(str(self.folder), self.referee)
         folder.make(folder.earlier)
         (folder.earlier / "2.toml").write_bytes(b"before")
         folder.again.write_bytes(b"again")
         self.publish()
         files = files_of(self.path)
         self.assertEqual((files["cup/earlier/2.toml"], files["cup/again.tsv"]), (b"before", b"again"))
+        self.assertEqual((files["cup/competition.toml"], files["cup/planned.toml"]), (b"wait = 3\n" + planned, planned))
 
     def test_plan_keeps_as_many_earlier_files_as_check_accepts(self):
         file = self.plan.folder.competition
