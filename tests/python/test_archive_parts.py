@@ -135,7 +135,6 @@ class Checked(Made):
             (without("cup/accounts/cup-002.txt"), "cup-002: its call log is missing"),
             (changed("cup/accounts/cup-001.txt", lambda data: data.replace(b"0 ready", b"0 go")), "cup-001: line 2 of its log does not agree with its call log"),
             (changed("cup/games/heap.kif", more), "games/heap.kif is not the description that the rules of heap were made from"),
-            (changed("cup/VERSION", lambda _: b"ggp_manager 9.9.9\n"), None),
             (changed("cup/VERSION", lambda _: b"ggp_manager 0.10.0\n"), None),
             (changed("cup/VERSION", lambda _: b"ggp_manager 0.2.0\n"), "it was published with ggp_manager 0.2.0: check it with that version, since its logs are not JSON"),
         ):
@@ -144,6 +143,8 @@ class Checked(Made):
             self.assertEqual(bool(faults), bool(words), (faults, words))
             if not words:
                 self.assertIn("the table and the pages are right", said)
+        said = self.check(changed("cup/VERSION", lambda _: b"ggp_manager 9.9.9\n")(dict(files)))[1]
+        self.assertTrue(said.endswith("; published with ggp_manager 9.9.9, checked by ggp_manager 1.2.3"), said)
 
     def test_all_that_is_wrong_is_told_at_once(self):
         self.publish()
