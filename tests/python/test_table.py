@@ -215,7 +215,7 @@ class Joined(unittest.TestCase):
 
     def test_one_table_has_the_players_and_games_of_all_and_the_anchors_of_the_first(self):
         first = self.plan("cup", [("ann",), ("bob", "withdrawn = true")], ["two"], "anchor = {ann = 1500, bob = 1000}")
-        second = self.plan("last", [("cid",), ("bob",), ("ann",)], ["one", "two"], "anchor = {ann = 1600, cid = 900}")
+        second = self.plan("last", [("cid", "withdrawn = true"), ("bob",), ("ann",)], ["one", "two"], "anchor = {ann = 1600, cid = 900}")
         found = joined([first, second])
         self.assertEqual(joined([first]), first)
         self.assertEqual((found.competition.name, [match.id for match in found.matches]), ("cup + last", ["cup-001", "last-001"]))
