@@ -135,7 +135,6 @@ class Checked(Made):
             (without("cup/accounts/cup-002.txt"), "cup-002: its call log is missing"),
             (changed("cup/accounts/cup-001.txt", lambda data: data.replace(b"0 ready", b"0 go")), "cup-001: line 2 of its log does not agree with its call log"),
             (changed("cup/games/heap.kif", more), "games/heap.kif is not the description that the rules of heap were made from"),
-            (changed("cup/VERSION", lambda _: b"ggp_manager 9.9.9\n"), None),
             (changed("cup/VERSION", lambda _: b"ggp_manager 0.10.0\n"), None),
             (changed("cup/VERSION", lambda _: b"ggp_manager 0.2.0\n"), "it was published with ggp_manager 0.2.0: check it with that version, since its logs are not JSON"),
         ):
@@ -144,6 +143,8 @@ class Checked(Made):
             self.assertEqual(bool(faults), bool(words), (faults, words))
             if not words:
                 self.assertIn("the table and the pages are right", said)
+        said = self.check(changed("cup/VERSION", lambda _: b"ggp_manager 9.9.9\n")(dict(files)))[1]
+        self.assertTrue(said.endswith("; published with ggp_manager 9.9.9, checked by ggp_manager 1.2.3"), said)
 
     def test_all_that_is_wrong_is_told_at_once(self):
         self.publish()
@@ -163,6 +164,9 @@ class Checked(Made):
         self.publish()
         self.referee.wrong = {b'"cup-002"': "not lawful: goals"}
         self.assertEqual(self.check()[0], ["cup-002: not lawful: goals"])
+        self.referee.wrong = {}
+        other = changed("cup/records/cup-001.json", lambda data: data.replace(b'"startClock": 5', b'"startClock": 7'))
+        self.assertEqual(self.check(other(files_of(self.path)))[0], ["cup-001: its startClock is 7, but the schedule has 5"])
         self.referee.unchecked = "`ggp_manager verify` gave no verdict for {}: it printed nothing, status 3"
         why = raised(Unchecked, self.check)
         self.assertEqual(str(why), "`ggp_manager verify` gave no verdict for cup/rules/heap.kif: it printed nothing, status 3")
@@ -199,13 +203,16 @@ class Checked(Made):
         self.assertEqual(files_of(self.path)["cup/play.log"], b"2026\n")
 
     def test_what_is_of_its_history_is_in_the_archive(self):
-        folder = self.plan.folder
+        folder, planned = self.plan.folder, self.plan.text
+        folder.competition.write_bytes(b"wait = 3\n" + planned)
+        self.plan = read_plan(str(self.folder), self.referee)
         folder.make(folder.earlier)
         (folder.earlier / "2.toml").write_bytes(b"before")
         folder.again.write_bytes(b"again")
         self.publish()
         files = files_of(self.path)
         self.assertEqual((files["cup/earlier/2.toml"], files["cup/again.tsv"]), (b"before", b"again"))
+        self.assertEqual((files["cup/competition.toml"], files["cup/planned.toml"]), (b"wait = 3\n" + planned, planned))
 
     def test_plan_keeps_as_many_earlier_files_as_check_accepts(self):
         file = self.plan.folder.competition
@@ -270,8 +277,9 @@ class Checked(Made):
         lines = [f"error {number}" for number in range(5_000)]
         with mock.patch.object(archive, "unpack", side_effect=Spoilt("\n".join(["x" * 3_000_000, *lines]))):
             self.assertEqual(self.check(), (["x" * 1_000 + "..", *lines[:99], "there are 4,901 more errors"], ""))
-        with mock.patch.object(archive, "what_is_right", side_effect=Spoilt("\n".join(lines[:101]))):
-            self.assertEqual(self.check()[0][-1], "there is 1 more error")
+        for count, more in ((100, []), (101, ["there is 1 more error"])):
+            with mock.patch.object(archive, "what_is_right", side_effect=Spoilt("\n".join(lines[:count]))):
+                self.assertEqual(self.check()[0], [*lines[:100], *more])
 
     def test_a_huge_file_is_not_read(self):
         self.publish()

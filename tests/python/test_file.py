@@ -103,6 +103,7 @@ NUMBERS = [
         ("strikes", 0, 255), ("play", 1, 86_400), ("tries", 1, 1_000), ("wait", 0, 86_400), ("info", 1, 10),
     )),
     ("strikes = 3", "anchor = {{ann = {}}}", 3, "anchor", -10_000, 10_000),
+    (GOOD[GOOD.index("strikes") : GOOD.index("\nrounds")], 'absent_rounds = {}\n[form]\nkind = "swiss"', 3, "absent_rounds", 0, 1_000),
     ("strikes = 3", "faults = {{replaced = {}}}", 3, "faults.replaced", 1, 10_000),
     ("slots = 9", "slots = {}", 4, "launcher.slots", 1, 1_024),
     ("rounds = 2", "rounds = {}", 7, "form.rounds", 1, 1_000),

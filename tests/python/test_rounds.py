@@ -131,8 +131,9 @@ class ByRounds(unittest.TestCase):
         plan_next_round(plan, self.play(plan))
         self.assertEqual(self.pairs(plan)[3], ((("p0", "p1"),), ()))
         results = self.play(plan)
-        found = [(line.player, line.rounds_won, line.points(), line.buchholz) for line in tables_of(plan.competition, list(results.values()), plan.rounds)[0].standings()]
-        self.assertEqual(found, [("p0", 2, 0, 6), ("p1", 1, 2, 4), ("p3", 0, 4, 4), ("p2", 0, 2, 4), ("p4", None, 4, 0)])
+        rows = [[row[1], *row[3:6]] for row in standings_rows(tables_of(plan.competition, list(results.values()), plan.rounds)[0])]
+        wanted = [["p0", "2", "0", "6"], ["p1", "1", "2", "4"], ["p3", "0", "4", "4"], ["p2", "0", "2", "4"], ["p4", "-", "4", "0"]]
+        self.assertEqual(rows, [["player", "rounds won", "points", "Buchholz"], *wanted])
 
     def test_what_the_pages_say_of_rounds(self):
         for form, wanted in (('kind = "knockout"', ["0 of 6 ", "Round 1 of 2; 2 matches"]), (SWISS.format(3), ["0 of 12 ", "Round 1 of 3; 8 matches"])):
@@ -380,6 +381,14 @@ class ByRounds(unittest.TestCase):
             self.assert_refused(late, lambda: order_again(self.folder.path, REFEREE, "cup-002", "x"))
             self.folder.again.write_bytes(self.folder.again.read_bytes() + again_text((Again("cup-010", "cup-002", "x"),)).splitlines(True)[1])
             self.assert_refused(late)
+
+    def test_the_seeds_are_those_of_the_other_table_until_a_match_is_played(self):
+        self.write(2, 'kind = "knockout"', 'seeds = "other.csv"')
+        for first, last, pair in (("p1", "p0", ("p1", "p0")), ("p0", "p1", ("p0", "p1")), ("p1", "p0", ("p0", "p1"))):
+            (self.folder.path / "other.csv").write_text(f"game,player\nall games,{first}\nall games,{last}\n")
+            plan = self.make()
+            self.assertEqual((plan.matches[0].players, self.read().matches), (pair, plan.matches))
+            _ = self.play(plan) if first == "p0" else None
 
     def test_the_schedule_is_written_last(self):
         self.write(2, SWISS.format(2), 'ids = "random"')

@@ -81,6 +81,8 @@ class Rules(InArchive):
         self.assertEqual(([lines[name]["matches"] for name in ("ann", "bob", "cid")], notes[0]), ([6, 6, 4], "cid has withdrawn: its disk is full; the matches that it has played count"))
         self.ran("publish")
         self.assertIn("8 records and call logs", self.ran("check", "cup.tar.gz")[0])
+        # The matches that are not played are not gaps.
+        self.assertNotIn("cup/GAPS.tsv", files_of(self.folder / "cup.tar.gz"))
         void = changed("cup/competition.toml", lambda text: b'withdrawn_results = "void"\n' + text)
         assert_spoilt(self, files_of(self.folder / "cup.tar.gz"), {
             "it has not withdrawn": (changed("cup/competition.toml", lambda text: text.replace(b"withdrawn = ", b"# ")), "earlier/12.toml asks for the same matches"),

@@ -85,9 +85,11 @@ class Tables(unittest.TestCase):
     def test_a_match_that_was_ordered_again_counts_for_nobody(self):
         first, second = result(["ann", "bob"], [100, 0]), result(["ann", "bob"], [0, 100])
         first = replace(first, match=replace(first.match, again="m2", reason="the host's cable"))
-        tables = tables_of(competition(), [first, second])
+        found = competition('strikes = 1\nforfeit = true\nfaults = {replaced = 2}\norder = "points"')
+        tables = tables_of(found, [first, second])
         self.assertEqual([(of.player, of.matches, of.won) for of in tables[0].standings()], [("bob", 1, 1), ("ann", 1, 0)])
-        files = table_files(Plan(None, competition(), {}, [first.match, second.match]), tables)
+        files = table_files(Plan(None, found, {}, [first.match, second.match]), tables)
+        self.assertEqual([json.loads(files["table.json"])[key] for key in ("matches", "planned", "forfeit", "replaced", "order")], [1, 1, True, 2, "points"])
         self.assertIn("cup: 1 of 1 matches\n", files["table.txt"].decode())
         self.assertIn("* m does not count: m2 replaces it: the host's cable\n", files["table.txt"].decode())
 
@@ -216,7 +218,7 @@ class Joined(unittest.TestCase):
 
     def test_one_table_has_the_players_and_games_of_all_and_the_anchors_of_the_first(self):
         first = self.plan("cup", [("ann",), ("bob", "withdrawn = true")], ["two"], "anchor = {ann = 1500, bob = 1000}")
-        second = self.plan("last", [("cid",), ("bob",), ("ann",)], ["one", "two"], "anchor = {ann = 1600, cid = 900}")
+        second = self.plan("last", [("cid", "withdrawn = true"), ("bob",), ("ann",)], ["one", "two"], "anchor = {ann = 1600, cid = 900}")
         found = joined([first, second])
         self.assertEqual(joined([first]), first)
         self.assertEqual((found.competition.name, [match.id for match in found.matches]), ("cup + last", ["cup-001", "last-001"]))
