@@ -63,7 +63,6 @@ class OpenMatch:
     async def go(self) -> None:
         """Plays the match. A match that is ended while it is being played is broken."""
         try:
-            # Threads wait for the disk.
             await in_thread(self.make_directory)
             if played := await (self.play_elsewhere() if self.playing.launcher else self.play_here()):
                 self.release_players()
