@@ -27,20 +27,14 @@ class Checked(NamedTuple):
     stops_game: bool = False
 
 
-class Files(NamedTuple):
-    """The record and the call log of a match."""
-
-    record: bytes
-    account: bytes
-
-
 class Checking:
     """The matches whose files the referee has not checked yet. When a check of a game's matches ends, the referee checks all matches of
     this game together that have ended in the meantime. This takes about as long as the check of one match."""
 
     def __init__(self, plan: Plan, referee: Referee) -> None:
         self.plan, self.referee = plan, referee
-        self.waiting: dict[Match, Files] = {}
+        # By match: the record and the call log, and then the error in them.
+        self.waiting: dict[Match, tuple[bytes, bytes]] = {}
         self.faults: dict[Match, str | Unchecked | None] = {}
         self.locks: dict[str, asyncio.Lock] = collections.defaultdict(asyncio.Lock)
 
@@ -48,12 +42,12 @@ class Checking:
         """Has the referee verify the record and replay the call log in the output of a match. Compares the match with the description of
         its game. Writes the files only then."""
         line, end, account = output.partition(b"\n")
-        files = Files(line + end, account)
+        files = line + end, account
         fault = await self.fault_of(match, files)
         # Threads do this, because they wait for the disk.
         return await asyncio.to_thread(keep_if_right, self.plan, match, files, log, fault)
 
-    async def fault_of(self, match: Match, files: Files) -> str | Unchecked | None:
+    async def fault_of(self, match: Match, files: tuple[bytes, bytes]) -> str | Unchecked | None:
         """Returns the error in the files of a match. If the referee gives no verdict, returns the reason. If there is no error, returns
         None."""
         self.waiting[match] = files
@@ -71,12 +65,12 @@ class Checking:
             self.waiting.pop(match, None)
 
 
-def faults_of(plan: Plan, referee: Referee, game: str, files: Sequence[Files]) -> list[str | Unchecked | None]:
+def faults_of(plan: Plan, referee: Referee, game: str, files: Sequence[tuple[bytes, bytes]]) -> list[str | Unchecked | None]:
     """Returns, for each match of a game, the error in its files, or the reason why the referee gives no verdict, or None."""
     faults: list[str | Unchecked | None] = [fault_of_files(*each, plan.rules[game].text) for each in files]
     sound = [at for at, fault in enumerate(faults) if not fault]
     try:
-        verdicts = referee_faults(plan, referee, game, [files[at].record for at in sound], [files[at].account for at in sound]) if sound else []
+        verdicts = referee_faults(plan, referee, game, *zip(*(files[at] for at in sound))) if sound else []
     except Unchecked as why:
         # Of several matches, perhaps only one is the reason.
         verdicts = [why] if len(sound) == 1 else [faults_of(plan, referee, game, [files[at]])[0] for at in sound]
@@ -85,20 +79,20 @@ def faults_of(plan: Plan, referee: Referee, game: str, files: Sequence[Files]) -
     return faults
 
 
-def keep_if_right(plan: Plan, match: Match, files: Files, open_log: pathlib.Path, fault: str | Unchecked | None) -> Checked:
+def keep_if_right(plan: Plan, match: Match, files: tuple[bytes, bytes], open_log: pathlib.Path, fault: str | Unchecked | None) -> Checked:
     """Writes the files of a match, unless they have an error. If the referee gave no verdict, the files get the ending `.unchecked`."""
-    log = file_bytes(open_log)
+    (record, account), log = files, file_bytes(open_log)
     if isinstance(fault, Unchecked):
         file = keep(plan.folder, match.id, *files, log, "unchecked")
         return Checked(why=f"it was played, but not checked, and is kept as {file}: {fault}")
-    check = check_of(plan, match, files.record, fault)
+    check = check_of(plan, match, record, fault)
     if not check.result:
         return Checked(why=check.fault or check.misfit)
-    description, comparison = compare(plan, match, files.record)
+    description, comparison = compare(plan, match, record)
     if comparison and comparison.startswith(DIFFERS):
         file = keep(plan.folder, match.id, *files, log, "differs")
         words = f"{comparison}\n".encode("ascii", "replace")
-        report = write_report(plan, match, {"description.kif": description, "record.json": files.record, "account.txt": files.account, "words.txt": words})
+        report = write_report(plan, match, {"description.kif": description, "record.json": record, "account.txt": account, "words.txt": words})
         why = f"compared with the description of {match.game}, it {comparison}; it is kept as {file}; please report this, and include {report}"
         return Checked(None, why, True)
     if comparison:

@@ -1,6 +1,7 @@
 """Manages the processes that play and check matches, and sends ABORT. The processes always end when this process ends."""
 
 import asyncio
+import concurrent.futures
 import contextlib
 import errno
 import json
@@ -20,6 +21,8 @@ MOST_AT_ONCE = 1 << 16
 MOST_ABORTS = 1_024
 # After its time limit, a process has this many more seconds, because this process may be late.
 SOON = 0.1
+# The threads that wait for the disk. Checks of matches, which may take long, have others.
+DISK = concurrent.futures.ThreadPoolExecutor(8)
 # Python ignores these signals, and other programs must not.
 NOT_IGNORED = signal.SIGPIPE, signal.SIGXFSZ
 
@@ -120,8 +123,8 @@ async def run(words: list[str], seconds: float | None = None) -> Done:
 
 
 async def in_thread(call: Callable[..., object], *arguments: object) -> None:
-    """Makes a call in a thread, and waits for its end even if this is cancelled."""
-    calling = asyncio.create_task(asyncio.to_thread(call, *arguments))
+    """Makes a call that takes at most as long as the disk, and waits for its end even if this is cancelled."""
+    calling = asyncio.get_running_loop().run_in_executor(DISK, call, *arguments)
     try:
         await asyncio.shield(calling)
     finally:

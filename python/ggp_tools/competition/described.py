@@ -19,6 +19,8 @@ SAME, DIFFERENT, NOT_FOLLOWED = 0, 1, 3
 # How the line about a record begins, for each result.
 IS_SAME, DIFFERS, IS_NOT_FOLLOWED = "the same: ", "differs: ", "not followed: "
 REPORT = "report-{}.tar.gz"
+# Whether a description has variables, by its checksum: for a large one, finding out takes long.
+HAVE_VARIABLES: dict[str, bool] = {}
 
 
 def description_of(plan: Plan, game: Game) -> tuple[bytes | None, str | None]:
@@ -31,9 +33,11 @@ def description_of(plan: Plan, game: Game) -> tuple[bytes | None, str | None]:
         return None, str(why)
     except OSError as why:
         return None, f"{file} can't be read: {why.strerror}"
-    if sum_of(text) != sums.get(f"{game.name}.kif"):
+    if (digest := sum_of(text)) != sums.get(f"{game.name}.kif"):
         return None, f"{file} is not the description that the rules of {game.name} were made from"
-    return (text, None) if has_variables(text) else (None, None)
+    if digest not in HAVE_VARIABLES:
+        HAVE_VARIABLES[digest] = has_variables(text)
+    return (text if HAVE_VARIABLES[digest] else None), None
 
 
 def comparisons(path: pathlib.Path, records: Sequence[bytes]) -> list[str]:

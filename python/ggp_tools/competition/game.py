@@ -4,7 +4,6 @@ import argparse
 import pathlib
 import re
 import shutil
-import statistics
 import sys
 from collections import Counter
 from collections.abc import Sequence
@@ -185,7 +184,7 @@ def spread(numbers: Sequence[int]) -> str:
     """Returns the smallest number, the largest one and the mean as text."""
     if min(numbers) == max(numbers):
         return f"always {numbers[0]:,}"
-    return f"{min(numbers):,} to {max(numbers):,}, on average {statistics.fmean(numbers):,.1f}"
+    return f"{min(numbers):,} to {max(numbers):,}, on average {sum(numbers) / len(numbers):,.1f}"
 
 
 def report_figures(reporter: Reporter, roles: Sequence[str], ended: list) -> None:

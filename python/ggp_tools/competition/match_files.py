@@ -222,11 +222,11 @@ def check_records(plan: "Plan", referee: Referee, known: Known | None = None) ->
             return checks(plan, referee, *part, known)
 
     done, parts = [], []
-    for game, matches in by_game.items():
-        found = known_checks(plan, referee, game, matches, known) if known else {}
-        done += found.values()
-        parts += [(game, batch) for batch in batches((match for match in matches if match.id not in found), size_of_match)]
     try:
+        for game, matches in by_game.items():
+            found = known_checks(plan, referee, game, matches, known) if known and known.facts("results") else {}
+            done += found.values()
+            parts += [(game, batch) for batch in batches((match for match in matches if match.id not in found), size_of_match)]
         done += itertools.chain.from_iterable(in_threads(check_batch, parts))
     except MemoryError:
         raise Unchecked("records and call logs can't be checked: out of memory") from None

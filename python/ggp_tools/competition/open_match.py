@@ -67,7 +67,6 @@ class OpenMatch:
     async def go(self) -> None:
         """Plays the match. If the match is ended while it is being played, `is_broken` is set."""
         try:
-            # Threads wait for the disk.
             await in_thread(self.make_directory)
             if played := await (self.play_elsewhere() if self.playing.launcher else self.play_here()):
                 self.release_players()

@@ -140,7 +140,7 @@ def is_begun(folder: Folder) -> bool:
 
 def count_of_matches(folder: Folder) -> int | None:
     """Returns the number of matches in schedule.tsv, or None if it does not exist."""
-    return sum(1 for _ in rows_of(folder.schedule)) - 1 if folder.schedule.exists() else None
+    return sum(row.endswith(b"\n") for row in rows_of(folder.schedule)) - 1 if folder.schedule.exists() else None
 
 
 def files_of_origin(plan: Plan) -> list[Path]:
@@ -294,7 +294,7 @@ def grows(folder: Folder, file: Path, new: bytes) -> bool:
     if file == folder.schedule:
         # A round may be planned again as long as none of its matches has a record.
         pairs = itertools.zip_longest(rows_of(file), new.splitlines(keepends=True), fillvalue=b"")
-        changes = ((old, row) for old, row in pairs if old and old != row)
+        changes = ((old, row) for old, row in pairs if not row.startswith(old))
         return not any(row or folder.record(old.partition(b"\t")[0].decode("ascii", "replace")).exists() for old, row in changes)
     return file == folder.planned or read_file(file) == new
 
