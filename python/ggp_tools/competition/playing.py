@@ -1,6 +1,7 @@
 """Plays the matches of a competition that have no lawful record yet, many at the same time, each when its players are free."""
 
 import asyncio
+import concurrent.futures
 import contextlib
 import errno
 import math
@@ -29,7 +30,7 @@ from ggp_tools.referee import Referee
 from ggp_tools.reporting import NOT_BEGUN, REDRAWN, Reporter
 
 # The players of matches that are ended must answer ABORT within this many seconds.
-ABORT_SECONDS = 3
+ABORT_SECONDS, DISK_THREADS = 3, 8
 ENDED = "broken off"
 # The number of interrupts that a signal counts as. After the first interrupt no more matches begin, and the second one ends the open matches.
 INTERRUPTS = {signal.SIGINT: 1, signal.SIGTERM: 2, signal.SIGHUP: 2}
@@ -56,6 +57,8 @@ class Playing:
         self.waiting: deque[Match] = deque()
         # `searched_at` is the time of the last search for matches that can begin.
         self.interrupts, self.is_full, self.searched_at = 0, False, 0.0
+        # The threads that wait for the disk before a match. Checks of matches, which may take long, have others.
+        self.disk: concurrent.futures.Executor | None = None
         self.group: asyncio.TaskGroup | None = None
         self.watch: Callable[[dict], str | None] | None = None
 
@@ -213,6 +216,7 @@ class Playing:
             if number != signal.SIGHUP or signal.getsignal(number) != signal.SIG_IGN:
                 asyncio.get_running_loop().add_signal_handler(number, self.interrupt, count)
         may_pair = not self.plan.competition.pause or not self.waiting
+        self.disk = concurrent.futures.ThreadPoolExecutor(DISK_THREADS)
         try:
             await self.go()
             while may_pair and self.may_begin() and not self.reporter.fault and (matches := plan_next_round(self.plan, self.results)):
@@ -222,6 +226,7 @@ class Playing:
                 self.slots.idle_until = 0.0
                 await self.go()
         finally:
+            self.disk.shutdown()
             await self.players.end()
 
 
