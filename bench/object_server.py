@@ -1,4 +1,5 @@
-"""A server of the calls that `bench/service` makes: asyncio around Python objects. It does what the server of service.rs does. Prints its address."""
+"""A server for the calls of `bench/service`, made of asyncio and Python objects. It does the same as the server in service.rs. It prints
+its address."""
 
 import asyncio
 

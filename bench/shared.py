@@ -44,8 +44,8 @@ def spent() -> float:
 
 
 def cost(words: list[str], file: str) -> tuple[float, float]:
-    """Returns the processor milliseconds and the maximum MB of a command on a file. GNU time starts the command, which adds about a millisecond,
-    because the memory of a process that Python starts would include Python's."""
+    """Returns the processor milliseconds and the maximum MB of a command on a file. GNU time starts the command, which adds about a
+    millisecond. If Python started the command, its memory would include that of Python."""
     with open(file, "rb") as given, tempfile.NamedTemporaryFile("r") as most:
         before = spent()
         subprocess.run(["/usr/bin/time", "-f", "%M", "-o", most.name, *words], stdin=given, stdout=subprocess.DEVNULL, stderr=subprocess.DEVNULL)
@@ -62,7 +62,7 @@ def instructions(words: list[str], file: str) -> float:
 
 @contextlib.contextmanager
 def load(is_busy: bool) -> Iterator[None]:
-    """If `is_busy`, two processes for each processor compute while the block runs."""
+    """If `is_busy`, two processes for each processor use processor time while the block runs."""
     count = 2 * os.cpu_count() if is_busy else 0
     workers = [subprocess.Popen([sys.executable, "-c", "while True: pass"]) for _ in range(count)]
     try:
@@ -85,7 +85,7 @@ def reply(text: str) -> bytes:
 
 
 def request_from(stream: socket.socket) -> bytes:
-    """Returns the bytes of the request on a connection, as far as they came before the connection ended."""
+    """Returns the bytes of the request on a connection. If the connection ends early, returns the bytes that came before."""
     heard = b""
     while True:
         top, end, body = heard.partition(b"\r\n\r\n")

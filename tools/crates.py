@@ -36,7 +36,7 @@ def crates():
 
 
 def below(name, known=None):
-    """Returns the crates that a crate uses, directly or indirectly, each after those that it uses itself."""
+    """Returns the crates that a crate uses, directly or indirectly. Each comes after the crates that it uses itself."""
     known = known or crates()
     order = []
     for dep in known[name]:
@@ -62,7 +62,7 @@ def texts_of(name, parts=PARTS):
 
 
 def strays(folder, names, top=TOP):
-    """Returns the non-empty subdirectories of a directory whose names are not among these, so that no tool reads them."""
+    """Returns the non-empty subdirectories of a directory whose names are not among these. No tool would read them."""
     with os.scandir(f"{top}/{folder}") as entries:
         others = sorted(entry.name for entry in entries if entry.is_dir() and entry.name not in names)
     return [other for other in others if any(files for _, _, files in os.walk(f"{top}/{folder}/{other}"))]
@@ -86,13 +86,13 @@ def made_from(parts=PARTS):
 
 
 def said_of(program, made):
-    """Returns the contents of the file next to a program: what the program was made from, and its checksum."""
+    """Returns the contents of the file next to a program. They say what the program was made from, and give its checksum."""
     return f"{made}program: {sum_of(program)}\n"
 
 
 def write_beside(program, ending, made):
-    """Writes a file next to a program that says what it was made from. A build writes this file last, so that an interrupted build does not count as
-    current."""
+    """Writes a file next to a program that says what the program was made from. A build writes this file last, so that an interrupted build
+    does not count as current."""
     with open(f"{program}.{ending}.new", "w", encoding="utf-8") as file:
         file.write(said_of(program, made))
     os.replace(f"{program}.{ending}.new", f"{program}.{ending}")

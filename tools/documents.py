@@ -1,4 +1,4 @@
-"""Parses what documents say about the code: the contracts that they name, code samples from files, and sentences that are too long."""
+"""Parses documents: the contracts that they name, code samples that come from files, and sentences that are too long."""
 import functools
 import glob
 import re
@@ -91,8 +91,8 @@ def contract_of(crate, name):
 
 
 def says(crate, contracts, name):
-    """Returns whether one of the contracts has a clause with this name. A name with a capital letter belongs to a definition, which must occur in the
-    contracts or the definitions of the crate."""
+    """Returns whether one of the contracts has a clause with this name. A name with a capital letter is that of a definition. The
+    definition must occur in the contracts or the definitions of the crate."""
     if name[0].isupper():
         return any(re.search(rf"\b{name}\b", text) for text in [*contracts, definitions(crate)])
     return any(f"ensures {name} {{" in contract for contract in contracts)
@@ -113,7 +113,8 @@ def without_targets(cell):
 
 
 def indexed(part):
-    """Returns the crate that a part of a cell of the index names, and the form of that part in the crate's own table; or None."""
+    """Returns the crate that a part of a cell of the index names, and this part in the form that it has in the crate's own table. Returns
+    None for other parts."""
     match = INDEXED.fullmatch(part)
     return (match[2], f"`{match[1]}`{match[3]}") if match else None
 

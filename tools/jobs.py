@@ -19,8 +19,8 @@ COUNTED = re.compile(r"\b(\d+) (passed|failed|errors?|skipped)\b")
 
 @dataclass
 class Job:
-    """A command, and the name that is printed before its lines. If a needed job fails, the jobs after it do not start. A needed job does not count as
-    a test."""
+    """A command, and the name that is printed before its lines. If a needed job fails, the jobs after it do not start. Needed jobs do not
+    count as tests."""
 
     name: str
     command: Sequence[str]
@@ -43,8 +43,8 @@ class Counts:
 
 
 def counts_in(last_line: str, is_well: bool) -> Counts:
-    """Returns the counts in the last line of a command: `N passed`, `N failed`, `N errors` and `N skipped`. A command without such a line counts as
-    one test. A command whose exit status is not 0 has failed, whatever it prints."""
+    """Returns the counts in the last line of a command: `N passed`, `N failed`, `N errors` and `N skipped`. A command without such a line
+    counts as one test. If the exit status of a command is not 0, the command has failed, whatever it prints."""
     numbers = {word.removesuffix("s"): int(number) for number, word in COUNTED.findall(last_line)}
     if is_well:
         # A test may also state the number of its errors.
@@ -57,8 +57,8 @@ def counts_in(last_line: str, is_well: bool) -> Counts:
 
 @dataclass
 class Jobs:
-    """The running commands. Each command leads a session, so that it can be ended with all processes that it started. With `ends_early`, all end when
-    one fails. `failed` has the last lines of each command that failed."""
+    """The running commands. Each command leads a session, so that it can be ended together with all processes that it has started. With
+    `ends_early`, all commands end when one fails. `failed` has the last lines of each command that failed."""
 
     ends_early: bool = False
     counts: Counts = field(default_factory=Counts)
@@ -89,7 +89,7 @@ class Jobs:
         reader = threading.Thread(target=self.read, args=(job, child, lines), daemon=True)
         reader.start()
         status = child.wait()
-        # Processes that the command has left running would keep its output open.
+        # Processes that the command has left running would keep the command's output open.
         self.kill(child.pid, signal.SIGKILL)
         reader.join()
         with self.lock:

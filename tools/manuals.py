@@ -115,7 +115,7 @@ def first_words(help_of: Help) -> str:
 
 
 def bash(help_of: Help) -> str:
-    """Returns the completions of a command for bash: options and subcommands, else files."""
+    """Returns the completions of a command for bash. They complete options and subcommands, or else files."""
     name, function = help_of.name, f"_{help_of.name.replace('-', '_')}"
     arms = [f"        {command.name.split()[-1]}) words='{' '.join(command.options())}' ;;" for command in help_of.commands]
     chosen = ["    case ${COMP_WORDS[1]} in", *arms, "    esac", "    ((COMP_CWORD == 1)) && words=$first"] if arms else []
@@ -164,8 +164,8 @@ def zsh(help_of: Help) -> str:
 
 
 def help_text(file: pathlib.Path, *command: str) -> str:
-    """Returns the --help of a command, with each entry in one line. A command in Python runs in this process, which imports its modules only
-    once."""
+    """Returns the --help of a command, with each entry in one line. If the command is in Python, it runs in this process, so that its
+    modules are imported only once."""
     words = [str(file), *command, "--help"]
     with mock.patch.dict(os.environ, COLUMNS="10000"), mock.patch.object(sys, "argv", words), mock.patch.object(sys, "path", [str(file.parent), *sys.path]):
         if not file.read_bytes().startswith(b"#!"):

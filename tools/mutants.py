@@ -19,7 +19,7 @@ OTHER_CALLS = {"min": "max", "max": "min", "any": "all", "all": "any", "set": "l
 SAME_KIND = ("strip", "lstrip", "rstrip", "lower", "upper", "copy", "removeprefix", "removesuffix")
 # Swapping the arguments of these functions changes nothing, or causes an error in every run.
 SHOWN_AT_ONCE = ("min", "max", "range", "print", "isinstance", "map", "filter", "decode", "encode", "sub", "get", "getattr", "open")
-# The fields of types and decorators, which are not mutated.
+# The fields of a node that hold types and decorators, which are not mutated.
 IGNORED = ("annotation", "returns", "decorator_list")
 FUNCTIONS = (ast.FunctionDef, ast.AsyncFunctionDef)
 
@@ -81,7 +81,7 @@ def is_word(node: ast.AST) -> bool:
 
 
 def with_item(node: ast.AST, field: str, index: int, item: ast.AST) -> ast.AST:
-    """Returns a copy of a node with one element of a list replaced."""
+    """Returns a copy of a node in which one element of a list is replaced."""
     new = copy.deepcopy(node)
     getattr(new, field)[index] = item
     return new

@@ -17,7 +17,7 @@ from crates import TOP
 
 PLACE = re.compile(r"^(note: )?(?:\./)?((?:src|specs|proofs)/\S+?):(\d+)(?::\d+)?: (.*)")
 FUNCTION = re.compile(r"fn (\S+): (?:no proof|not proved)(.*)")
-# The prover's messages about a name in a proof file that the mutated goals no longer have.
+# The prover's messages about a name in a proof file that the mutated goals no longer contain.
 LOST = re.compile(r"has no field|has no `|has no constructor|is not in scope|is no name|was not admitted|can be named from here")
 FALSE = re.compile(r"allow values at which this goal is false")
 HEAD = re.compile(r"(\w+): (src/\S+)")
@@ -29,7 +29,7 @@ class MutationError(ValueError):
 
 @dataclass
 class Mutation:
-    """A named change of a crate: pairs of an old and a new text, each with its file, and where the mutation is written."""
+    """A named change of a crate: pairs of an old and a new text, each pair with its file, and the place where the mutation is written."""
 
     crate: str
     name: str

@@ -1,5 +1,6 @@
-"""Checks that Python is recent enough, and that the gate has passed with the installed version of the Rattle toolchain. Otherwise reports this in one
-line before the tool does anything else. Any Python 3 can run this file, so that an old version can report itself."""
+"""Checks that Python is recent enough, and that the gate has passed with the installed version of the Rattle toolchain. If one of these is
+not the case, reports this in one line before the tool does anything else. Any Python 3 can run this file, so that an old version can report
+that it is too old."""
 import importlib.machinery
 import importlib.util
 import os
@@ -29,7 +30,7 @@ def python_error(version):
 
 
 def toolchain_error(version):
-    """Returns the error message for a toolchain whose `rt version` prints this (None if there is no `rt`), or None."""
+    """Returns the error message for a toolchain, or None. `version` is the output of `rt version`, or None if there is no `rt`."""
     if version is None:
         return "the command rt is missing; it is part of the Rattle toolchain, " + spell_toolchains() + ": " + WHAT_TO_DO
     words = version.split()
@@ -47,7 +48,7 @@ def toolchain_version():
 
 
 def require_toolchain():
-    """Ends the tool with one line if the toolchain is missing or has another version. Returns the output of `rt version`."""
+    """Returns the output of `rt version`. If the toolchain is missing or has another version, prints one line and exits."""
     version = toolchain_version()
     error = toolchain_error(version)
     if error:

@@ -6,7 +6,7 @@ import subprocess
 from collections.abc import Iterator, Sequence
 from dataclasses import dataclass
 
-# Installing a package with a service starts the service, unless this file forbids it.
+# When a package with a service is installed, the service starts, unless this file forbids it.
 POLICY = "/usr/sbin/policy-rc.d"
 NO_SERVICES = "#!/bin/sh\nexit 101\n"
 SYSTEM = ("/usr/sbin", "/sbin")
@@ -15,7 +15,7 @@ LIBRARIES = "/usr/lib/x86_64-linux-gnu"
 
 
 def searched() -> str:
-    """Returns PATH with the directories of system commands added if they are missing."""
+    """Returns PATH, with the missing directories of system commands added."""
     directories = os.environ.get("PATH", os.defpath).split(os.pathsep)
     return os.pathsep.join([*directories, *(directory for directory in SYSTEM if directory not in directories)])
 
@@ -59,6 +59,7 @@ NEEDS = (
     Need("groff-base", ("groff",), "formats the pages of the manual"),
     Need("zsh", ("zsh",), "reads the completions for zsh"),
     Need("jq", ("jq",), "reads the log of a season"),
+    Need("valgrind", ("valgrind",), "counts the instructions of the program"),
     Need("python3-pytest-cov", (f"{MODULES}/pytest_cov",), "measures the coverage of the Python tests", is_optional=True),
     Need("parallel", ("parallel",), "measurements (bench)", is_optional=True),
     Need("g++", ("g++",), "measurements (bench)", is_optional=True),
@@ -100,15 +101,15 @@ def no_services(policy: str = POLICY) -> Iterator[None]:
 
 
 def error_of(command: Sequence[str]) -> str:
-    """Runs a command of apt-get. Returns its output if it failed, else an empty text."""
+    """Runs a command of apt-get. If it fails, returns its output, otherwise an empty text."""
     how = {"stdin": subprocess.DEVNULL, "stdout": subprocess.PIPE, "stderr": subprocess.STDOUT, "text": True, "errors": "replace"}
     done = subprocess.run(command, env={**os.environ, "DEBIAN_FRONTEND": "noninteractive"}, **how)
     return f"{done.stdout}needs: {' '.join(command)}: status {done.returncode}\n" if done.returncode else ""
 
 
 def install(packages: Sequence[str]) -> bool:
-    """Installs packages. After a failure it updates the lists of packages and tries again. Returns whether it succeeded; if not, prints the output of
-    apt-get."""
+    """Installs packages. After a failure, updates the lists of packages and tries again. Returns whether this succeeded. If it did not,
+    prints the output of apt-get."""
     with no_services():
         error = error_of(installing(packages)) and (error_of(["apt-get", "update"]) or error_of(installing(packages)))
     print(error, end="")
@@ -116,7 +117,8 @@ def install(packages: Sequence[str]) -> bool:
 
 
 def lack_of_rights() -> str | None:
-    """Returns why the gate's tests cannot run in this process (they make networks, mount a disk and run as another user), or None."""
+    """The gate's tests make networks, mount a disk and run as another user. If they cannot run in this process, returns the reason,
+    otherwise None."""
     if os.geteuid():
         return 'the gate needs root, because its tests make networks and mount disks: type: sudo env "PATH=$PATH" make gate'
     made = subprocess.run(["unshare", "--net", "--mount", "true"], stdin=subprocess.DEVNULL, stderr=subprocess.PIPE, text=True)

@@ -8,7 +8,7 @@ from crates import spell
 
 # The seconds of a proof, for each crate and for each megabyte of its proof cost, fitted to the times of a whole gate.
 SECONDS_A_CRATE, SECONDS_A_MEGABYTE = 18.0, 1.28
-# The seconds of a test crate for each line. Most of it is compilation.
+# The seconds of a test crate for each line of code. Compilation takes most of this time.
 SECONDS_A_LINE = 0.06
 
 
@@ -23,15 +23,15 @@ def by_megabytes(names: list[str], megabytes: dict[str, int]) -> dict[str, float
 
 
 class Progress:
-    """Pieces of work, `lanes` of them in parallel. `seconds` has the expected time of each. After one of them has ended, only the proportions
-    matter."""
+    """Pieces of work, of which up to `lanes` run in parallel. `seconds` has the expected time of each. As soon as one of them has ended,
+    only the proportions matter."""
 
     def __init__(self, seconds: dict[str, float], lanes: int) -> None:
         self.seconds, self.lanes, self.lock = seconds, lanes, threading.Lock()
         self.began, self.begun, self.ended, self.done = time.monotonic(), {}, set(), 0.0
 
     def left(self) -> float:
-        """Returns the estimated seconds of the rest, at the pace so far."""
+        """Estimates how many seconds the remaining pieces take at the pace so far."""
         rest = sum(seconds for name, seconds in self.seconds.items() if name not in self.ended)
         return rest * ((time.monotonic() - self.began) / self.done if self.done else 1 / self.lanes)
 

@@ -19,8 +19,8 @@ LAST_LINES = 30
 
 
 class Waits:
-    """Compares the number of functions that may wait, as a proof counts them, with the crate's row of crates.txt. `rt ci` does not count the
-    functions of a cached crate again, so each tool that proves a crate compares the numbers."""
+    """Compares the number of functions that may wait, as a proof counts them, with the crate's row of crates.txt. `rt ci` does not count
+    the functions of a cached crate again. So each tool that proves a crate compares the numbers."""
 
     def __init__(self, rows: dict[str, tuple[str, list[str]]]) -> None:
         self.stated = {name: said_words(row.partition(":")[0]).get("may_wait", "0") for name, (row, _) in rows.items()}

@@ -29,7 +29,7 @@ def is_program(name: str) -> bool:
 
 
 def files_of(crate: str) -> Iterator[str]:
-    """Yields the paths of a crate's sources and definitions, from its directory."""
+    """Yields the paths of a crate's sources and definitions, relative to its directory."""
     for part in ("src", "specs"):
         for at, _, files in os.walk(f"{crate}/{part}"):
             yield from (os.path.relpath(f"{at}/{file}", crate) for file in sorted(files))
@@ -47,13 +47,13 @@ def module_of(file: str) -> str:
 
 
 def without_other_tests(text: str, module: str, part: str) -> tuple[str, list[str]]:
-    """Returns the text of a file without the tests whose names lack this part, and the names of the others."""
+    """Returns the text of a file without the tests whose names do not contain `part`, and the names of the remaining tests."""
     names = [name for name in (module + match[1] for match in TEST.finditer(text)) if part in name]
     return TEST.sub(lambda match: match[0] if module + match[1] in names else "", text), names
 
 
 def leave_tests(top: str, name: str, part: str) -> list[str]:
-    """Removes the tests whose names lack this part from the copy of a crate. Returns the names of the others."""
+    """In the copy of a crate, removes the tests whose names do not contain `part`. Returns the names of the remaining tests."""
     kept = []
     for file in files_of(f"{top}/crates/{name}"):
         path = f"{top}/crates/{name}/{file}"
@@ -66,7 +66,8 @@ def leave_tests(top: str, name: str, part: str) -> list[str]:
 
 
 def lay_out(top: str) -> None:
-    """Fills a directory with copies of the repository's crates and of those of tests/unit. The copies' names lack the ending `.test`."""
+    """Fills a directory with copies of the repository's crates and of the crates of tests/unit. In the copies, file names do not have the
+    ending `.test`."""
     os.makedirs(f"{top}/.git")
     shutil.copy(f"{TOP}/HANDLES", top)
     with open(f"{top}/crates.txt", "w", encoding="utf-8") as stream:

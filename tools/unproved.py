@@ -1,4 +1,4 @@
-"""Compiles programs without proofs, with `rt try`. At its end `rt try` deletes the program, so the program is copied while it runs."""
+"""Compiles programs without proofs, with `rt try`. Because `rt try` deletes the program at its end, the program is copied while it runs."""
 import glob
 import os
 import shutil
@@ -9,7 +9,7 @@ import time
 
 from crates import TOP, spell
 
-# A compilation takes a few minutes, and ten times as long on a busy computer. After this time it counts as hanging.
+# A compilation takes a few minutes, or ten times as long on a busy computer. If it takes longer than this, it counts as hanging.
 PATIENCE = 3_600
 LAST_LINES = 20
 
@@ -42,8 +42,8 @@ def wait_for_program(folder, compiling, who):
 
 
 def compile_unproved(crate, kept, flags=(), arguments=(), given=b"", top=TOP):
-    """Compiles a program crate with these flags of `rt try`, and copies it to `kept` while it runs with these arguments and this input. It must run
-    for at least a second. Returns whether it was compiled; if not, prints the last lines of `rt try`."""
+    """Compiles a program crate with these flags of `rt try`, and copies it to `kept` while it runs with these arguments and this input. The
+    program must run for at least a second. Returns whether it was compiled. If it was not, prints the last lines of `rt try`."""
     room_of = os.path.dirname(kept)
     os.makedirs(room_of, exist_ok=True)
     with tempfile.TemporaryDirectory(prefix="unproved-", dir=room_of) as directory:

@@ -3,8 +3,8 @@
 
     page.py ADDRESS PORT
 
-ADDRESS is that of `ggp_manager desk --listen` with the game examples/games/tictactoe.kif. The page at http://127.0.0.1:PORT begins a match.
-"""
+ADDRESS is the address of a `ggp_manager desk --listen` whose game is examples/games/tictactoe.kif. The page at http://127.0.0.1:PORT begins
+a match."""
 
 import argparse
 import pathlib
@@ -40,7 +40,8 @@ class Match:
         self.round += 1
 
     def mark(self, player: int, cell: str) -> None:
-        """Submits a move and `noop`, and marks the cell that the desk reports: a different one if the player's choice was not free."""
+        """Submits a move for this player and `noop` for the other one. Marks the cell that the desk reports, which is a different one if
+        the player's choice was not free."""
         with self.lock:
             if player == self.turn and cell in CELLS:
                 self.answer(*(f"(mark {cell})" if other == player else "noop" for other in (0, 1)))

@@ -22,7 +22,7 @@ START, PLAY = 10, 5
 
 
 def message(owed: Owe, match_id: str, role: object, rules: list) -> tuple:
-    """Returns the message that a player of the role gets."""
+    """Returns the message for the player of a role."""
     match owed.message:
         case "start":
             return ("start", match_id, role, rules, START, PLAY)

@@ -1,5 +1,5 @@
 #!/usr/bin/env python3
-"""The smallest player that knows the rules: it answers with the first legal move that it finds."""
+"""The smallest player that interprets the rules. It answers with the first legal move that it finds."""
 
 import argparse
 import re
@@ -7,7 +7,7 @@ from http.server import BaseHTTPRequestHandler, HTTPServer
 
 
 def read(text):
-    """Returns an expression: an atom as a string, a list as a tuple."""
+    """Parses an expression. An atom becomes a string, and a list becomes a tuple."""
     stack = [[]]
     for token in re.findall(r"[()]|[^\s()]+", text):
         if token == "(":
@@ -53,7 +53,7 @@ class Match:
         return self.known[literal]
 
     def move(self, joint_move):
-        """Goes to the next state, unless this is the first turn. Returns a legal move."""
+        """Returns a legal move. If this is not the first turn, first goes to the next state."""
         if joint_move != "nil":
             moves = {("does", role, move) for role, move in zip(self.roles, joint_move)}
             self.state = [term for _, term in self.heads("next", self.present() | moves)]
@@ -76,7 +76,7 @@ class Player(BaseHTTPRequestHandler):
         self.wfile.write(answer)
 
     def answer(self, receiver, kind, match_id="", *arguments):
-        # Two roles of a match may be at this address, under different names.
+        # Two roles of a match may have this address, under different names.
         seat = match_id, receiver
         match kind:
             case "info":

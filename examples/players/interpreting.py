@@ -3,9 +3,9 @@
 
     interpreting.py PORT [SEED | first]
 
-It is like player.py, but uses the interpreter of `tests/oracle` for the rules in START. It prints the number of sentences, and of those with
-variables, on standard error. With `first` instead of a seed, it plays the first of its legal moves in alphabetical order.
-"""
+It is like player.py, but uses the interpreter of `tests/oracle` for the rules in START. On standard error, it prints the number of
+sentences, and the number of sentences with variables. With `first` instead of a seed, it plays the first of its legal moves in alphabetical
+order."""
 
 import pathlib
 import random
@@ -26,7 +26,7 @@ class Game(interpreter.Game):
 
 
 def count_text(sentences):
-    """Returns a line with the number of sentences, and of those with variables."""
+    """Returns a line with the number of sentences, and the number of sentences with variables."""
     return f"rules of {len(sentences):,} sentences, {sum(not interpreter.is_ground(sentence) for sentence in sentences):,} with variables"
 
 

@@ -3,10 +3,9 @@
 
     player.py PORT [SEED]
 
-It listens on 127.0.0.1, answers INFO, START, PLAY, STOP and ABORT, and plays one match at a time: that of the last START. If messages for several
-names come to its port, it plays one match for each name. The same SEED, a whole number, chooses the same moves. The player needs only Python's
-standard library.
-"""
+It listens on 127.0.0.1, answers INFO, START, PLAY, STOP and ABORT, and plays one match at a time: the match of the last START. If its port
+receives messages for several names, it plays one match for each name. SEED is a whole number; the same SEED gives the same moves. The
+player needs only Python's standard library."""
 
 import argparse
 import queue
@@ -22,16 +21,16 @@ from concurrent.futures import Future
 from dataclasses import dataclass
 from http.server import BaseHTTPRequestHandler, ThreadingHTTPServer
 
-# The maximum length and nesting of messages. START is the longest: the rules of a large game have at most 16,777,216 bytes, and printing them may
-# add a space for each atom and each list.
+# The maximum length and nesting of messages. START is the longest message: the rules of a large game have at most 16,777,216 bytes, and
+# printing them may add a space for each atom and each list.
 MOST_BYTES, MOST_LISTS = 33_554_432, 66
 # The longest answer that is a move.
 MOST_ANSWER = 4_096
-# A pipe that is ready for writing takes this many bytes at once.
+# If a pipe is ready for writing, it takes at least this many bytes at once.
 MOST_SAID = 4_000
 # If a referee is this many seconds late with its next message, the player counts as available again.
 PATIENCE = 10
-# Rules are evaluated by recursion. Each of 262,144 sentences may use the next one, inside some lists. This is deeper than Python's default limit.
+# Rules are evaluated by recursion. Each of 262,144 sentences may use the next one, inside some lists. This exceeds Python's default limit.
 DEEPEST = 4_000_000
 
 
@@ -40,7 +39,7 @@ def tokens(text):
 
 
 def read(text):
-    """Parses KIF: an atom is a string, a list a tuple. Capitals become lower case."""
+    """Parses KIF. An atom becomes a string, and a list becomes a tuple. Capitals become lower case."""
     stack = [[]]
     for token in tokens(text.lower()):
         if token == "(":
@@ -56,7 +55,7 @@ def read(text):
 
 
 def read_message(text):
-    """Parses a message. Keeps capitals only in the id of the match, which follows the keyword."""
+    """Parses a message. Capitals are kept only in the id of the match, which follows the keyword."""
     message = read(text)[0]
     return (message[0], tokens(text)[2], *message[2:]) if isinstance(message, tuple) and len(message) > 1 else message
 
@@ -108,7 +107,7 @@ class Game:
 
     def is_derived(self, head, state, joint, known):
         """Returns whether all literals of some rule for this head are true."""
-        # These are loops, because `any` and `all` would use stack for each rule.
+        # These are loops, because `any` and `all` would use more of the stack for each rule.
         for body in self.bodies.get(head, []):
             for literal in body:
                 if not self.holds(literal, state, joint, known):
@@ -136,7 +135,7 @@ class Seat:
     role: object
     game: Game
     state: set
-    # The longer of the two clocks, and when the next message must have arrived.
+    # The longer of the two clocks, and the time by which the next message must have arrived.
     clock: int
     expected: float = 0.0
 
@@ -145,8 +144,8 @@ class Seat:
 
 
 class Player:
-    """The player's match for each value of the header `Receiver`, and its answers. Two roles of a match, or two players of different matches, may have
-    the same address under different names. A message for one name changes nothing for the others."""
+    """For each value of the header `Receiver`, the player has a separate match, and answers its messages. Two roles of a match, or two
+    players of different matches, may have the same address under different names. A message for one name changes nothing for the others."""
 
     def __init__(self, choose, game=Game):
         self.choose, self.make_game = choose, game
@@ -159,7 +158,7 @@ class Player:
                 return "busy" if seat and time.monotonic() < seat.expected else "available"
             case ("start", match_id, role, rules, start, play):
                 game = self.make_game(rules)
-                # This ends the receiver's earlier match, but only after the rules were read successfully.
+                # This ends the receiver's earlier match, but only after the rules have been read successfully.
                 self.seats[receiver] = seat = Seat(match_id, role, game, game.initial(), max(int(start), int(play)))
                 seat.expect()
                 return "ready"
@@ -178,7 +177,7 @@ class Player:
 
 
 def is_waiting(stream):
-    """Returns whether a stream is not ready for writing, for example a pipe that nobody reads."""
+    """Returns whether a stream is not ready for writing. An example is a pipe that nobody reads."""
     try:
         return not select.select([], [stream], [], 0)[1]
     except (OSError, ValueError):
@@ -186,8 +185,8 @@ def is_waiting(stream):
 
 
 def say(text):
-    """Prints a line on standard error at once, because other players may print there too. Because anyone can send a message, prints only visible
-    characters. If nobody reads the output, drops it."""
+    """Prints a line on standard error at once, because other players may print there too. Anyone can send a message, so only visible
+    characters are printed. If nobody reads the output, the line is dropped."""
     seen = "".join(character if " " <= character <= "~" or character == "\n" else "?" for character in text[-MOST_SAID:])
     try:
         if sys.stderr and not is_waiting(sys.stderr):
@@ -219,8 +218,8 @@ class Handler(BaseHTTPRequestHandler):
 
 
 class Server(ThreadingHTTPServer):
-    """Reads each message in its own thread, so a slow connection does not block others. One thread answers all messages in the order in which they
-    came. The next message may come before a late answer is ready."""
+    """Reads each message in a separate thread, so that a slow connection does not block others. One thread answers all messages in the
+    order in which they came. The next message may come before a late answer is ready."""
 
     # The maximum number of waiting connections.
     request_queue_size = 128

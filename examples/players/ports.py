@@ -15,7 +15,8 @@ from itertools import islice
 sys.dont_write_bytecode = True
 from player import Game, read
 
-# By default, Linux uses ports from 32,768 up for outgoing connections, so such a connection cannot take a lower port before the player listens on it.
+# By default, Linux uses ports from 32,768 up for outgoing connections. So no such connection can take a lower port before the player
+# listens on it.
 PORTS = range(20000, 32768)
 
 

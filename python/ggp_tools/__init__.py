@@ -4,8 +4,8 @@ Live pages also need aiohttp, and descriptions with variables need the grounder 
 import os
 import sys
 
-# The version of the referee that this package is delivered with.
+# The version of the referee that is delivered with this package.
 VERSION = "0.3.0"
 
 if sys.version_info < (3, 11):
-    sys.exit("%s: Python %d.%d runs it, and it needs 3.11 or later" % (os.path.basename(sys.argv[0]), *sys.version_info[:2]))
+    sys.exit("%s: this is Python %d.%d, but the command needs 3.11 or later" % (os.path.basename(sys.argv[0]), *sys.version_info[:2]))

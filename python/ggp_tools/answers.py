@@ -10,17 +10,18 @@ from ggp_tools.kif import KifFault, Refused, expressions, spelled, starts
 from ggp_tools.match_log import SHOWN
 from ggp_tools.printable import MORE
 
-# Legal moves are listed up to this many bytes.
+# The maximum number of bytes of a list of legal moves.
 MOST_BYTES = 400
-# The number of games in the cache.
+# The maximum number of games in the cache.
 MOST_GAMES = 4
-# Because the interpreter is slow, a page lists the legal moves for at most MOST_TOLD illegal ones, and only if the rules have at most MOST_RULES
-# bytes.
+# The interpreter is slow. So a page lists the legal moves for at most MOST_TOLD illegal moves, and only if the rules have at most
+# MOST_RULES bytes.
 MOST_TOLD, MOST_RULES = 20, 1 << 20
 
 
 def no_expression(answer: str) -> str:
-    """Returns why an answer is not one expression, if its text in a log shows why. A log has `?` for each byte that is not visible."""
+    """Returns why an answer is not one expression, if the answer's text in a log shows the reason. Logs show `?` for each byte that is not
+    visible."""
     if len(answer) == SHOWN + len(MORE) and answer.endswith(MORE):
         return "the log has only the beginning of such a long answer"
     try:
@@ -36,7 +37,7 @@ def no_expression(answer: str) -> str:
 
 
 def listed(moves: list[str]) -> str:
-    """Describes the legal moves of a role: their number, and the moves themselves up to a limit of bytes."""
+    """Describes the legal moves of a role: their number, and as many of the moves as the limit of bytes allows."""
     bytes_left, shown = MOST_BYTES, []
     for move in moves:
         bytes_left -= len(move) + 2
@@ -50,7 +51,7 @@ def listed(moves: list[str]) -> str:
 
 @functools.lru_cache(MOST_GAMES)
 def game_of(rules: bytes) -> Game:
-    """Parses ground rules for the interpreter, which shares no code with the referee. The latest games are cached."""
+    """Parses ground rules for the interpreter, which shares no code with the referee. Caches the most recent games."""
     return Game(rules.decode("latin-1"))
 
 
@@ -63,7 +64,7 @@ class Illegal:
         self.kept: tuple[int, Position] | None = None
 
     def position(self, turn: int) -> Position:
-        """Returns the position before a turn. The latest one is cached."""
+        """Returns the position before a turn. Caches the most recent one."""
         if self.kept is None or self.kept[0] != turn:
             self.kept = turn, self.game().position(frozenset(expressions("\n".join(self.states[turn]))))
         return self.kept[1]
@@ -76,8 +77,8 @@ class Illegal:
             return []
 
     def moves(self, role: int, turn: int, error: str) -> str:
-        """Describes the legal moves of a turn with an illegal move, and says for which roles or in which turn that move would be legal. The text is
-        empty for other errors, and if the interpreter cannot compute the legal moves."""
+        """For an illegal move, describes the legal moves of its turn, and says for which roles, or in which turn, the move would be legal.
+        For other errors, or if the interpreter cannot compute the legal moves, the text is empty."""
         legal = self.legal(role, turn) if error.startswith("IL ") and error != "IL ?" else []
         if not legal:
             return ""
@@ -88,15 +89,15 @@ class Illegal:
 
 
 class Whys:
-    """Returns the text that a page adds to a replaced move: the legal moves, or why the answer is not an expression. `answers` has the answers that
-    are not expressions, by role and turn. Without a game, the text does not mention legal moves."""
+    """The texts that a page adds to replaced moves: the legal moves, or why the answer is not an expression. `answers` has the answers that
+    are not expressions, by role and turn. Without a game, the texts do not mention legal moves."""
 
     def __init__(self, record: dict, game: Callable[[], Game] | None, answers: dict[tuple[int, int], str]) -> None:
         self.illegal, self.left = game and Illegal(record["states"], record["roles"], game), MOST_TOLD
         self.answers = answers
 
     def more(self, role: int, turn: int, error: str) -> str:
-        """Returns the text to append to an error. Turns are counted from 0."""
+        """Returns the text that is appended to an error. Turns are counted from 0."""
         if error == "IL ?":
             why = no_expression(self.answers[role, turn]) if (role, turn) in self.answers else ""
             return f": {why}" if why else ""

@@ -14,7 +14,7 @@ from typing import Self
 from ggp_tools.referee import PROGRAM, find_program
 
 MOST_NUMBER = 1_000_000_000
-# A word of a call, and the last word of `submit`, which may have spaces.
+# The characters of one word of a call, and of the last argument of `submit`, which may contain spaces.
 WORD, TEXT = re.compile(r"[^ \r\n]+"), re.compile(r"[^\r\n]*")
 
 
@@ -37,7 +37,7 @@ class Hold:
 
 @dataclass(frozen=True)
 class Over:
-    """Nothing more is due in the match."""
+    """The role owes no further answer in this match."""
 
 
 @dataclass(frozen=True)
@@ -49,7 +49,8 @@ class Status:
 
 
 class Refused(Exception):
-    """The desk has refused a call and changed nothing. `reason` is a word such as `nomatch`; after `stale`, there is also the current round."""
+    """The desk has refused a call and changed nothing. `reason` is a word such as `nomatch`; if it is `stale`, `round` has the current
+    round."""
 
     def __init__(self, call: str, reason: str, round_: int | None) -> None:
         super().__init__(f"the desk refuses `{call}`: {reason}{'' if round_ is None else f' {round_}'}")
@@ -61,7 +62,7 @@ class DeskEnded(Exception):
 
 
 def word(value: str | int) -> str:
-    """Returns a value as one word of a call, and refuses other values."""
+    """Returns the value as one word of a call. Raises an exception if it cannot be one word."""
     if isinstance(value, int) and not 0 <= value <= MOST_NUMBER:
         raise ValueError(f"expected a number from 0 to {MOST_NUMBER}, found {value}")
     if not WORD.fullmatch(str(value)):
@@ -109,8 +110,9 @@ class Connection:
 
 
 class Desk:
-    """A desk of one game, in a program that begins and ends with `with`. `options` are those of the command `desk`, for example `--countdown=3`. At
-    the end of `with`, `records` has the record of each match, in the order of opening. `Desk.connect` returns a desk that many clients share.
+    """A desk of one game, in a program that begins and ends with `with`. `options` are those of the command `desk`, for example
+    `--countdown=3`. At the end of `with`, `records` has the record of each match, in the order in which the matches were opened.
+    `Desk.connect` returns a desk that many clients share.
 
     The methods block, and threads may share a desk. In asyncio, use `async with` and call `await asyncio.to_thread(desk.next, "m1", 0)`."""
 
@@ -142,8 +144,8 @@ class Desk:
         await asyncio.to_thread(self.__exit__, *why)
 
     def reply(self, call: str) -> str:
-        """Makes the call in one row of a script, and returns the row with the reply. If an exception interrupts this method, the desk or the
-        connection to it ends."""
+        """Makes the call in one row of a script, and returns the row with the reply. If an exception interrupts this method, the desk ends,
+        or the connection to it is closed."""
         if not TEXT.fullmatch(call):
             raise ValueError(f"expected a call without line breaks, found {call!r}")
         with self.lock:
@@ -170,7 +172,8 @@ class Desk:
         return self.reply(" ".join(map(word, words)))
 
     def open(self, id_: str, players: Sequence[str], *, game: int = 0, start: int = 10, play: int = 10, strikes: int = 0) -> None:
-        """Opens a match of these players, one for each role. The clocks, in seconds, only go into the record: the caller measures the time."""
+        """Opens a match of these players, one for each role. The clocks, in seconds, are only stored in the record: the caller measures the
+        time."""
         self.make("strict", id_, game, start, play, strikes, *players)
 
     def next(self, id_: str, role: int) -> Owe | Hold | Over:

@@ -1,4 +1,4 @@
-"""Parses the sentences of a game description into rules without `or` and `and`, and computes which relations depend on which."""
+"""Parses the sentences of a game description into rules without `or` and `and`, and computes the dependencies between relations."""
 
 import itertools
 import math
@@ -8,21 +8,21 @@ from typing import NamedTuple
 from ggp_tools.kif import DIGITS, Expression, Refused, Relation, applied, atoms, fresh, head_of, quoted, relation, starts, variables
 from ggp_tools.printable import shown
 
-# A sentence is expanded into one rule for each way to satisfy its `or`s. If there are more than FEW_WAYS, each `or` becomes an auxiliary relation if
-# possible. There may be at most MOST_WAYS.
+# A sentence becomes one rule for each way to satisfy its `or`s. If there are more than FEW_WAYS, each `or` that can be moved into an
+# auxiliary relation is moved there first. A sentence with more than MOST_WAYS remaining ways is refused.
 FEW_WAYS, MOST_WAYS = 100, 10000
 
 ARITIES = {"role": 1, "init": 1, "true": 1, "next": 1, "does": 2, "legal": 2, "goal": 2, "terminal": None}
-# The relations that define the game. The output has their rules even if no body uses them.
+# The relations that define the game. Their rules are in the output even if no body uses them.
 GAME = ("role", "init", "next", "legal", "goal", "terminal")
-# A message about a dependence lists the relations between the two ends, in at most this many characters.
+# If a relation depends on another indirectly, the error lists the relations on the path between them, in at most this many characters.
 MOST_OF_WAY = 400
 NO_RELATIONS = ("<=", "not", "or", "distinct", "and")
 SECRET = "belongs to GDL-II, for games with chance or hidden information; here each role sees every move"
 
 
 class Literal(NamedTuple):
-    """An atomic sentence or its negation. If `same` is set, `atom` is a pair of terms that are equal, or not equal."""
+    """An atomic sentence or its negation. If `same` is set, `atom` is a pair of terms, and the literal says whether they are equal."""
 
     positive: bool
     atom: Expression
@@ -33,7 +33,7 @@ Body = tuple[Literal, ...]
 
 
 class Rule(NamedTuple):
-    """A sentence, for one way to satisfy its `or`s."""
+    """A rule without `or`: one way to satisfy the `or`s of a sentence."""
 
     sentence: int
     head: Expression
@@ -45,7 +45,7 @@ class Rule(NamedTuple):
 
 
 def as_read(expression: Expression) -> Expression:
-    """Replaces the list `(terminal)`, which some descriptions have, with the atom."""
+    """Replaces the list `(terminal)`, which some descriptions use, with the atom `terminal`."""
     if isinstance(expression, str):
         return expression
     if expression == ("terminal",):
@@ -64,12 +64,12 @@ def must_be_term(expression: Expression) -> None:
 
 
 def form(name: str, count: int | None) -> str:
-    """Returns the form of an atomic sentence with this number of arguments."""
+    """Returns the form of an atomic sentence with this name and this number of arguments."""
     return name if count is None else f"({' '.join([name] + ['_'] * count)})"
 
 
 def form_of(name: str) -> str:
-    """Returns the form of a sentence or a condition of GDL with this name. The text is empty if there are several forms."""
+    """Returns the form of a GDL sentence or condition with this name, or an empty text if it has several forms."""
     if name in ARITIES:
         return form(name, ARITIES[name])
     return {"not": "(not _)", "distinct": "(distinct _ _)", "or": "(or _ ..) in the body of a rule", "<=": "(<= _ ..) as a whole sentence"}.get(name, "")
@@ -110,7 +110,7 @@ def must_be_literal(literal: Expression) -> None:
 
 
 def each_of(ways: list[list[Body]]) -> list[Body]:
-    """Returns the ways to satisfy all of these conditions. Each condition is given as a list of the ways to satisfy it."""
+    """Returns the ways to satisfy all of these conditions. Each condition is a list of the ways to satisfy it."""
     if math.prod(map(len, ways)) > MOST_WAYS:
         raise Refused(f"its `or`s can hold in more than {MOST_WAYS:,} ways", advice="move some of them into a relation with its own rules")
     return [tuple(itertools.chain(*way)) for way in itertools.product(*ways)]
@@ -130,7 +130,7 @@ def ways_of(literal: Expression, positive: bool = True) -> list[Body]:
 
 
 def bound_by(body: Body) -> set[str]:
-    """Returns the variables in the sentences of a body that are not negated."""
+    """Returns the variables of a body that occur in sentences without a negation."""
     return {name for literal in body if literal.positive and not literal.same for name in variables(literal.atom)}
 
 
@@ -155,7 +155,8 @@ def parted(sentence: Expression) -> tuple[Expression, Expression]:
 
 
 def rules_of(number: int, sentence: Expression, names: Iterator[str]) -> list[Rule]:
-    """Returns the rules of one sentence. If there are too many ways to satisfy its `or`s, each `or` becomes a relation with one of these names."""
+    """Returns the rules of one sentence. If there are too many ways to satisfy its `or`s, each `or` for which this is possible becomes a
+    relation with one of these names."""
     head, body = parted(sentence)
     ways, rules = [ways_of(literal) for literal in body], []
     if math.prod(map(len, ways)) > FEW_WAYS:
@@ -179,13 +180,13 @@ def lines_of(text: str) -> list[int]:
 
 
 def cited(number: int, sentences: Sequence[Expression], lines: Sequence[int] = ()) -> str:
-    """Returns a sentence as error messages cite it, with its line if `lines` are given."""
+    """Formats a sentence for error messages. If `lines` are given, the text includes the sentence's line."""
     where = f", line {lines[number]}: " if lines else ", "
     return f"sentence {number}{where}{quoted(sentences[number])}"
 
 
 def all_rules(sentences: Sequence[Expression], of_one: Callable = rules_of) -> list:
-    """Returns the rules of all sentences. A refusal has the number of its sentence."""
+    """Returns the rules of all sentences. If a sentence is refused, the exception has the sentence's number."""
     word = fresh("either", set(atoms(tuple(sentences))), DIGITS)
     rules, names = [], (f"{word}{count}" for count in itertools.count(1))
     for number, sentence in enumerate(sentences):
@@ -197,8 +198,8 @@ def all_rules(sentences: Sequence[Expression], of_one: Callable = rules_of) -> l
 
 
 def refuse_dependence(asks: Mapping[Relation, Iterable[Relation]], source: Callable[[Relation, Relation], int]) -> None:
-    """Refuses the dependencies that the referee refuses: `legal`, `goal` and `terminal` must not depend on moves, and `role` and `init` must not
-    depend on a state or moves. `source` returns the sentence in which a relation uses another."""
+    """Refuses the dependencies that the referee refuses: `legal`, `goal` and `terminal` must not depend on moves, and `role` and `init`
+    must not depend on a state or moves. `source` returns the sentence in which one relation uses another."""
     moving, fixed = "let `next` record what the moves did, and read that with `true`", "it must be known before the first state"
     first = [("init", ["true", "does"], fixed), ("role", ["true", "does"], fixed)]
     for name, others, advice in [("legal", ["does"], moving), ("goal", ["does"], moving), ("terminal", ["does"], moving), *first]:
@@ -209,7 +210,7 @@ def refuse_dependence(asks: Mapping[Relation, Iterable[Relation]], source: Calla
 
 
 def way_to(head: Relation, last: Relation, asks: Mapping[Relation, Iterable[Relation]]) -> list[Relation]:
-    """Returns a shortest path by which a relation depends on another. It is empty if there is none."""
+    """Returns a shortest path of dependencies from one relation to another, or an empty list if there is none."""
     before: dict[Relation, Relation | None] = {head: None}
     queue = [head]
     for key in queue:
@@ -228,7 +229,7 @@ def way_to(head: Relation, last: Relation, asks: Mapping[Relation, Iterable[Rela
 
 
 def reached(asks: Mapping[Relation, Iterable[Relation]], relations: Iterable[Relation]) -> set[Relation]:
-    """Returns the relations that these depend on."""
+    """Returns all relations on which these depend, directly or indirectly."""
     found, left = set(), list(relations)
     while left:
         for asked in asks.get(left.pop(), ()):
@@ -239,8 +240,10 @@ def reached(asks: Mapping[Relation, Iterable[Relation]], relations: Iterable[Rel
 
 
 def components(graph: Mapping[Expression, Iterable[Expression]]) -> list[list[Expression]]:
-    """Returns the strongly connected components of a graph, each as a list. A component comes after those that it leads to."""
-    # Tarjan's algorithm without recursion. The index of a node on the stack is its position there. Nodes of finished components have a higher index.
+    """Returns the strongly connected components of a graph, each as a list. Each component comes after the components to which it has
+    edges."""
+    # Tarjan's algorithm without recursion. The index of a node is its position on the stack. Nodes of finished components have a higher
+    # index.
     lows, stack, components_found = {}, [], []
     for start in graph:
         open_nodes = [] if start in lows else [(start, iter(graph[start]), len(stack))]
@@ -263,7 +266,7 @@ def components(graph: Mapping[Expression, Iterable[Expression]]) -> list[list[Ex
 
 
 class Relations:
-    """Which relations of a description use which others. A relation is a name and a number of arguments."""
+    """The dependencies between the relations of a description. A relation is a name with a number of arguments."""
 
     def __init__(self, rules: list[Rule]) -> None:
         self.asks, self.denies, self.sources = {}, {}, {}
@@ -276,12 +279,12 @@ class Relations:
                     if not literal.positive:
                         self.denies.setdefault(head, set()).add(asked)
         groups = components(self.asks)
-        # Relations that depend on each other have the same number.
+        # All relations that depend on each other have the same number.
         self.group = {relation: number for number, group in enumerate(groups) for relation in group}
         self.circular = {relation for group in groups for relation in group if len(group) > 1 or relation in self.asks[relation]}
 
     def unsettled(self) -> set[Relation]:
-        """Returns the relations that the grounder cannot evaluate: they depend on the state, on moves, or on their own negation."""
+        """Returns the relations that the grounder cannot evaluate, because they depend on the state, on moves, or on their own negation."""
         first = {("true", 1), ("does", 2)}
         first |= {head for head, denied in self.denies.items() for other in denied if self.group.get(other) == self.group[head]}
         asked_by = {}
@@ -291,7 +294,7 @@ class Relations:
         return first | reached(asked_by, first)
 
     def bearing(self) -> set[Relation]:
-        """Returns the relations that define the game, and those that these depend on."""
+        """Returns the relations that define the game, and all relations on which these depend."""
         own = [(name, ARITIES[name]) for name in GAME]
         return {*own, ("true", 1), ("does", 2), *reached(self.asks, own)}
 

@@ -1,5 +1,6 @@
 """Parses KIF. An atom becomes a string, and a list becomes a tuple. `Refused` says why a description is refused."""
 
+import math
 import re
 from collections.abc import Callable, Collection, Hashable, Iterable, Iterator
 from typing import TypeVar
@@ -8,10 +9,10 @@ from ggp_tools.printable import shown
 
 Value, Key = TypeVar("Value"), TypeVar("Key", bound=Hashable)
 Expression = str | tuple
-# The name of a relation, and the number of its arguments: None for an atom.
+# The name of a relation, and the number of its arguments, which is None for an atom.
 Relation = tuple[str, int | None]
 MOST_LEVELS = 64
-# Advice for files of other kinds, by their first bytes.
+# Advice for files that are not KIF, by their first bytes.
 FILE_HEADS = {
     "\xef\xbb\xbf": "the file begins with a byte order mark: save it without one", "\x1f\x8b": "the file is compressed with gzip: decompress it",
     "\xff\xfe": "the file is UTF-16: save it as ASCII", "\xfe\xff": "the file is UTF-16: save it as ASCII",
@@ -27,7 +28,7 @@ NO_CHARACTER = re.compile(r"[^\t\n\r\x20-\x7e]")
 
 
 class Refused(Exception):
-    """Why a description cannot be grounded: one line, the number of the faulty sentence, if there is one, and advice."""
+    """The reason why a description cannot be grounded, in one line, with advice. If one sentence is at fault, `sentence` is its number."""
 
     def __init__(self, words: str, sentence: int | None = None, advice: str = "") -> None:
         super().__init__(words)
@@ -35,7 +36,7 @@ class Refused(Exception):
 
 
 class KifFault(Refused):
-    """Why a text is not KIF, with the index of the error."""
+    """The reason why a text is not KIF. `index` is the position of the error."""
 
     def __init__(self, words: str, index: int, advice: str = "") -> None:
         super().__init__(words, advice=advice)
@@ -48,13 +49,13 @@ def blanked(text: str) -> str:
 
 
 def advice_for_bytes(text: str) -> str:
-    """Returns advice about a text with bytes that KIF does not allow. The text is decoded as Latin-1."""
+    """Returns advice about a text with bytes that KIF does not allow. The text was decoded as Latin-1."""
     return next((advice for head, advice in FILE_HEADS.items() if text.startswith(head)), "write it in ASCII, or in a comment")
 
 
-def tokens(text: str, takes_bytes: bool = False) -> Iterator[tuple[str, int, int]]:
-    """Yields each parenthesis and each atom of a text, with its index and the number of lists that contain it. Refuses a text that is not KIF. With
-    `takes_bytes` any bytes are allowed, for messages."""
+def tokens(text: str, most_levels: float = math.inf, takes_bytes: bool = False) -> Iterator[tuple[str, int, int]]:
+    """Yields each parenthesis and each atom of a text, with its index and the number of lists that contain it. Refuses a text that is not KIF, and lists
+    that are nested more than `most_levels` deep. With `takes_bytes` any bytes are allowed, for messages."""
     text = blanked(text)
     if not takes_bytes and (bad := NO_CHARACTER.search(text)):
         raise KifFault(f"a byte that is not a character of KIF: {bad[0]!r}", bad.start(), advice_for_bytes(text))
@@ -66,6 +67,8 @@ def tokens(text: str, takes_bytes: bool = False) -> Iterator[tuple[str, int, int
             opened.pop()
         yield token[0], token.start(), len(opened)
         if token[0] == "(":
+            if len(opened) == most_levels:
+                raise KifFault(f"lists are nested more than {most_levels} deep", token.start())
             opened.append(token.start())
     if opened:
         raise KifFault("a list that is not closed", opened[-1], "add a `)`")
@@ -73,17 +76,16 @@ def tokens(text: str, takes_bytes: bool = False) -> Iterator[tuple[str, int, int
 
 def expressions(text: str, most_levels: float = MOST_LEVELS, takes_bytes: bool = False) -> list[Expression]:
     """Parses the expressions of a text, in lower case. Refuses lists that are nested more than `most_levels` deep."""
-    levels = [[]]
-    for token, index, around in tokens(text, takes_bytes):
+    # Equal atoms share one object, because a description repeats most of its atoms many times.
+    levels, known = [[]], {}
+    for token, _, _ in tokens(text, most_levels, takes_bytes):
         if token == "(":
-            if around == most_levels:
-                raise KifFault(f"lists are nested more than {most_levels} deep", index)
             levels.append([])
         elif token == ")":
             closed = tuple(levels.pop())
             levels[-1].append(closed)
         else:
-            levels[-1].append(token.lower())
+            levels[-1].append(known.get(token) or known.setdefault(token, token.lower()))
     return levels[0]
 
 
@@ -91,18 +93,18 @@ def has_variables(text: str) -> bool:
     return VARIABLE.search(blanked(text)) is not None
 
 
-def starts(text: str) -> list[int]:
+def starts(text: str, most_levels: float = math.inf, takes_bytes: bool = False) -> list[int]:
     """Returns the index at which each expression of a text begins."""
-    return [index for token, index, around in tokens(text) if not around and token != ")"]
+    return [index for token, index, around in tokens(text, most_levels, takes_bytes) if not around and token != ")"]
 
 
 def place_of(text: str, index: int) -> str:
-    """Returns the line and the column of an index."""
+    """Returns a text with the line and the column of an index."""
     return f"line {text.count(chr(10), 0, index) + 1}, column {index - text.rfind(chr(10), 0, index)}"
 
 
 def told(text: str, why: Refused) -> str:
-    """Formats a refusal: the place, the reason, the sentence and the advice."""
+    """Formats the refusal of a text: the place, the reason, the sentence and the advice."""
     words, index = str(why), why.index if isinstance(why, KifFault) else None
     if why.sentence is not None:
         index, words = starts(text)[why.sentence], f"{words}: {quoted(expressions(text)[why.sentence])}"
@@ -141,7 +143,7 @@ def variables(expression: Expression) -> list[str]:
 
 
 def fits(pattern: Expression, term: Expression, values: dict[str, Expression]) -> bool:
-    """Returns whether the pattern equals the term for some values of its variables, and adds these values."""
+    """Returns whether the pattern equals the term for some values of the pattern's variables. Adds these values to `values`."""
     if is_variable(pattern):
         return values.setdefault(pattern, term) == term
     if isinstance(pattern, str) or isinstance(term, str):
@@ -157,7 +159,7 @@ def put(term: Expression, values: dict[str, Expression]) -> Expression:
 
 
 def place(expression: Expression) -> tuple:
-    """Returns the sort key of an expression in the output."""
+    """Returns the key by which the output sorts expressions."""
     if isinstance(expression, str):
         digits = expression.lstrip("0")
         return (0, len(digits), digits, expression) if expression.isdigit() else (1, expression)
@@ -184,12 +186,12 @@ def head_of(sentence: Expression) -> Expression:
 
 
 def levels(expression: Expression) -> int:
-    """Returns how deeply lists are nested."""
+    """Returns how deeply the lists of an expression are nested."""
     return 0 if isinstance(expression, str) else 1 + max(map(levels, expression), default=0)
 
 
 def grouped(values: Iterable[Value], key: Callable[[Value], Key]) -> dict[Key, list[Value]]:
-    """Groups values by a key. The groups and their values keep their order."""
+    """Groups values by a key. The groups, and the values in each, keep their order."""
     groups: dict[Key, list[Value]] = {}
     for value in values:
         groups.setdefault(key(value), []).append(value)
@@ -197,7 +199,7 @@ def grouped(values: Iterable[Value], key: Callable[[Value], Key]) -> dict[Key, l
 
 
 def fresh(word: str, taken: Collection[str], ending: str = "") -> str:
-    """Appends hyphens to a word until no name in `taken` consists of the word and a match of this regular expression."""
+    """Appends hyphens to a word until no name in `taken` is this word followed by a match of the regular expression `ending`."""
     while any(re.fullmatch(re.escape(word) + ending, name) for name in taken):
         word += "-"
     return word

@@ -1,5 +1,5 @@
-"""Reads and writes the JSON log of matches, even while a log grows. docs/COMMANDS.md describes the format, docs/COMPETITION.md the events
-that `play` adds. Each character of a text stands for one byte."""
+"""Reads and writes the JSON log of matches, even while a log grows. docs/COMMANDS.md describes the format. docs/COMPETITION.md describes
+the events that `play` adds. Each character of a text stands for one byte."""
 
 import dataclasses
 import io
@@ -15,7 +15,8 @@ from ggp_tools.moments import moment_at
 from ggp_tools.printable import printable
 from ggp_tools.streams import limited_lines
 
-# An answer has at most 65,536 bytes, each written as at most six characters. A longer line is not an event, and is not kept in memory.
+# An answer has at most 65,536 bytes, each written as at most six characters. A line that is too long for such an answer is not an event,
+# and is not kept in memory.
 LONGEST_LINE = 1 << 23
 START, PLAY, STOP, ABORT = KINDS = "START", "PLAY", "STOP", "ABORT"
 ENDS = STOP, ABORT
@@ -43,8 +44,8 @@ class Event:
 
 @dataclass(frozen=True, slots=True)
 class Message(Event):
-    """A message to the player of a role, numbered from 1, and its answer, or an error instead. `time` is when the message was sent, and `ms` how long
-    the answer took. START has `...` instead of the description."""
+    """A message to a role's player, with its answer or the error that replaces the answer. `number` counts from 1. `time` is when the
+    message was sent, and `ms` is how long the answer took. In START, `...` replaces the description."""
 
     match: str
     role: int
@@ -79,7 +80,7 @@ class Message(Event):
 
 @dataclass(frozen=True, slots=True)
 class Open(Event):
-    """A match begins: its first START follows."""
+    """A match begins. Its first START follows."""
 
     match: str
     time: int | None
@@ -99,7 +100,7 @@ class End(Event):
 
 @dataclass(frozen=True, slots=True)
 class Host(Event):
-    """`play` starts a match on a host."""
+    """`play` starts the match on a host."""
 
     match: str
     host: str
@@ -107,20 +108,20 @@ class Host(Event):
 
 @dataclass(frozen=True, slots=True)
 class Other(Event):
-    """An event that is only printed."""
+    """An event that the tools only print."""
 
     name: str
     values: dict[str, str | int | None]
 
 
 NAMES = {Message: "message", Open: "open", End: "end", Host: "host"}
-# The class of each event, and the types of its keys.
+# For the name of each event, its class, and the types of the values of its keys.
 TYPES = {name: (kind, {field.name: get_args(field.type) or (field.type,) for field in dataclasses.fields(kind)}) for kind, name in NAMES.items()}
 TYPES_OF_OTHER = str, int, type(None)
 
 
 def is_value(key: str, value: object, kinds: tuple[type, ...]) -> bool:
-    """Returns whether a key may have a JSON value."""
+    """Returns whether this JSON value is allowed for the key."""
     kind = type(value)
     if kind not in kinds:
         return False
@@ -150,7 +151,7 @@ def event_of(line: bytes) -> Event | None:
 
 
 def values_of(event: Event) -> tuple[str, dict[str, str | int | None]]:
-    """Returns the name of an event and the values by their keys."""
+    """Returns the name of an event, and its values by key."""
     if isinstance(event, Other):
         return event.name, event.values
     name = NAMES[type(event)]
@@ -173,7 +174,7 @@ def line_of(event: Event) -> bytes:
 
 
 def whole_lines(file: BinaryIO) -> Iterator[bytes]:
-    """Yields the lines of a file from its current position. It skips lines that are too long, and an unfinished last line."""
+    """Yields the lines of a file from its current position. Skips lines that are too long, and an unfinished last line."""
     return (line for line, is_whole in limited_lines(file, LONGEST_LINE) if is_whole and line.endswith(b"\n"))
 
 
@@ -189,7 +190,7 @@ class Runs:
         self.is_open, self.last = False, {}
 
     def is_next(self, event: Event) -> bool:
-        """Takes the next event of the match. Returns whether it begins a new run."""
+        """Processes the next event of the match. Returns whether it begins a new run."""
         if isinstance(event, Message):
             begins = event.number <= self.last.get(event.role, 0)
         else:
@@ -203,7 +204,7 @@ class Runs:
 
 
 def runs_of(log: BinaryIO, match: str) -> Iterator[list[Event]]:
-    """Yields the events of each run of a match in a log. There is at least one run, which may have no events."""
+    """Yields the events of each run of a match in a log. Yields at least one run, which may be empty."""
     run: list[Event] = []
     runs = Runs()
     for event in events(log):

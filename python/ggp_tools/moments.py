@@ -1,9 +1,9 @@
-"""Times of day in logs and journals."""
+"""Formats times of day for logs and journals."""
 
 import datetime
 import time
 
-# The format of a time of day, in UTC.
+# The format of a time, which is in UTC.
 MOMENT = r"\d{4}-\d\d-\d\dT\d\d:\d\d:\d\d\.\d{3}Z"
 
 
@@ -13,5 +13,5 @@ def moment_at(seconds: float) -> str:
 
 
 def moment() -> str:
-    """Returns the current time."""
+    """Returns the current time in the same format."""
     return moment_at(time.time())

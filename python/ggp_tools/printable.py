@@ -1,10 +1,10 @@
-"""Makes text from other programs and files safe for terminals and for the files that commands write: printable ASCII of limited length."""
+"""Makes text from other programs and files safe to print and to store: printable ASCII of limited length."""
 
 import re
 
 NOT_PRINTABLE = re.compile(r"[^\x20-\x7e]")
-# The maximum numbers of characters of a line of output, and of a line of another program's message. Only the last MOST_READ bytes of such a message
-# are searched for its last lines.
+# The maximum numbers of characters in a line of output, and in a line that quotes another program. The last lines of another program's
+# output are searched for only in its last MOST_READ bytes.
 MOST_OF_LINE, MOST_SHOWN, MOST_READ = 10_000, 1_000, 1 << 16
 MORE = ".."
 
@@ -15,7 +15,7 @@ def printable(text: str, most: int = MOST_OF_LINE) -> str:
 
 
 def message_of(text: str) -> str:
-    """Returns at most 1,000 characters of another program's line."""
+    """Shortens a line of another program's output to 1,000 characters, and makes it printable."""
     return printable(text, MOST_SHOWN)
 
 
@@ -37,6 +37,7 @@ def shown(text: str, most: int = MOST_OF_LINE) -> str:
 
 
 def counted(number: int, word: str, *verbs: str) -> str:
-    """Returns a number with a noun in the right form. If two verbs are given, one follows: the first for one thing, the second for several."""
+    """Returns a number with a noun in the singular or plural. If two verbs are given, the first follows a singular, and the second a
+    plural."""
     plural = "" if number == 1 else "es" if word.endswith("ch") else "s"
     return " ".join([f"{number:,} {word}{plural}", *verbs[number != 1 :][:1]])

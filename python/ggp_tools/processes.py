@@ -1,4 +1,4 @@
-"""Runs other programs to their ends, and describes how they ended."""
+"""Runs other programs and waits until they end. Describes how they ended."""
 
 import contextlib
 import contextvars
@@ -11,8 +11,8 @@ from collections.abc import Iterator, Sequence
 
 from ggp_tools.competition import guard
 
-# The beginning of a command line: followed by the number of this process and a command, it runs the command, and kills it when this process ends. If
-# this process has already ended, the command does not run.
+# These arguments, followed by the id of this process and a command, run the command, and kill it when this process ends. If this process
+# has already ended, the command does not run.
 WITH_PARENT = ("setpriv", "--pdeathsig", "KILL", "--", "sh", "-c", 'test "$PPID" = "$0" && exec "$@"')
 # The environment of the programs that end with this process, with their mark, or None.
 APART: contextvars.ContextVar[dict[str, str] | None] = contextvars.ContextVar("APART", default=None)
@@ -39,6 +39,6 @@ def run_whole(words: Sequence[str], **more: object) -> subprocess.CompletedProce
 
 
 def ended_words(status: int) -> str:
-    """Describes how a process ended. Its status is negative if a signal ended it."""
+    """Describes how a process ended. A negative status is the number of the signal that ended it."""
     name = next((f" ({known.name})" for known in signal.Signals if known == -status), "")
     return f"it was killed by signal {-status}{name}" if status < 0 else f"it ended with status {status}"

@@ -22,7 +22,7 @@ if TYPE_CHECKING:
 
 PROGRAM = "ggp_manager"
 LAWFUL = "lawful"
-# With this option, verdicts are JSON, exit status 1 means no, and all errors have a greater exit status.
+# With this option, verdicts are JSON. Exit status 1 means a negative verdict, and all errors have a greater exit status.
 JSON, NO = "--json", 1
 VERSION_LINE = re.compile(rb"ggp_manager [0-9]+\.[0-9]+\.[0-9]+\n")
 # The first version that writes logs in JSON.
@@ -34,20 +34,20 @@ MOST_OF_SCRIPT, MOST_OF_MOVE = 1 << 20, 4_096
 
 
 class NoReferee(Exception):
-    """The referee does not exist, or is another program."""
+    """The referee does not exist, or the program found is not the referee."""
 
 
 class BadRules(Exception):
-    """Why the referee refuses a ground description, with the place."""
+    """The reason why the referee refuses a ground description, and the place of the error."""
 
 
 class Unchecked(Exception):
-    """The referee could not check something, because it ran out of a resource or was killed. This is not a verdict."""
+    """The referee gave no verdict, because it ran out of a resource or was killed."""
 
 
 def find_program(given: str | None) -> str:
-    """Returns the path of the referee: the given one, or else the one next to this program, in bin/ of the repository, or on the PATH of the
-    shell."""
+    """Returns the path of the referee: the given one, or else the first one found next to this program, in bin/ of the repository, or on
+    the PATH of the shell."""
     if given:
         if not shutil.which(given):
             raise NoReferee(f"{given} is not an executable program")
@@ -63,7 +63,7 @@ def find_program(given: str | None) -> str:
 
 
 def has_events(version: bytes) -> bool:
-    """Returns whether this version of the referee, as printed by `--version`, writes the current log format."""
+    """Returns whether the referee writes the current log format. `version` is what it prints for `--version`."""
     return tuple(map(int, version.split()[1].split(b"."))) >= FIRST_WITH_EVENTS
 
 
@@ -73,22 +73,22 @@ def last_line(said: subprocess.CompletedProcess) -> str:
 
 
 def records_replayed(output: bytes) -> list[bytes]:
-    """Returns the records that `replay` printed for each call log. The line before each group of records is the verdict, with the number of the
-    records."""
+    """Returns the records that `replay` printed for each call log. Before the records of a call log comes its verdict, which includes their
+    number."""
     lines = iter(output.splitlines(True))
     verdicts = (json.loads(line) for line in lines)
     return [b"".join(itertools.islice(lines, verdict["records"])) for verdict in verdicts if verdict["verdict"] == "replayed"]
 
 
 def unchecked(said: subprocess.CompletedProcess, name: object) -> Unchecked:
-    """Returns the error of a run that gave no verdict. `name` names the rules."""
+    """Returns the error of a run that gave no verdict. `name` is the name of the rules in the message."""
     words = last_line(said).removeprefix("ggp_manager: ") or "it printed nothing"
     return Unchecked(f"`{PROGRAM} {said.args[1]}` gave no verdict for {name}: {words}; {ended_words(said.returncode)}")
 
 
 @contextlib.contextmanager
 def rules_file(rules: bytes) -> Iterator[str]:
-    """Yields the path of a temporary file with these rules. An error names the file."""
+    """Yields the path of a temporary file with these rules. If the file cannot be written, the exception names it."""
     with tempfile.NamedTemporaryFile() as file:
         try:
             pathlib.Path(file.name).write_bytes(rules)
@@ -106,8 +106,8 @@ def read_objects(said: subprocess.CompletedProcess) -> list[dict] | None:
 
 
 class Referee:
-    """Runs the referee at a path, with the limits for large games or the usual ones. Options are written as `--name=FILE`, because the name of a file
-    may begin with a hyphen."""
+    """Runs the referee at a path, with the usual limits or with those for large games. Options are written as `--name=FILE`, because the
+    name of a file may begin with a hyphen."""
 
     def __init__(self, path: str, is_large: bool = False) -> None:
         self.path, self.is_large = path, is_large
@@ -130,7 +130,8 @@ class Referee:
         return run.stdout.decode("ascii").strip()
 
     def roles(self, rules: bytes, name: object) -> tuple[str, ...]:
-        """Returns the names of the roles of a ground description. Refuses an invalid one. `name` is used in error messages."""
+        """Returns the names of the roles of a ground description. Raises `BadRules` if the description is invalid; the message calls it
+        `name`."""
         with rules_file(rules) as path:
             self.check_rules(path, name)
         facts = map(head_of, expressions(rules.decode("latin-1")))
@@ -139,7 +140,8 @@ class Referee:
     def run_words(
         self, rules_path: pathlib.Path | str, player_rules_path: pathlib.Path | str | None, match: "Match", strikes: int, places: list[str], log: object = "-"
     ) -> list[str]:
-        """Returns the command that plays a match. START carries the second rules if they are given. The log goes to a file, or to standard error."""
+        """Returns the command line that plays a match. If `player_rules_path` is given, START contains the rules in that file. `log` is the
+        log file, or `-` for standard error."""
         player_rules = [] if player_rules_path is None else [f"--player-rules={player_rules_path}"]
         options = f"--id={match.id}", f"--start={match.start}", f"--play={match.play}", f"--strikes={strikes}", "--history", f"--log={log}"
         return [self.path, "run", *self.rules_words(rules_path), *player_rules, *options, "--", *places]
@@ -162,19 +164,19 @@ class Referee:
         return [line.decode("ascii", "replace") for line in run.stdout.splitlines() if not line.startswith(b"{")], records[0]
 
     def check_rules(self, rules_path: pathlib.Path | str, name: object = None) -> None:
-        """Refuses a file that is not a ground description. `name` is used in error messages if the path is temporary."""
+        """Refuses a file that is not a ground description. If the path is temporary, error messages use `name` instead."""
         run = self.call("verify", "--lines", JSON, *self.rules_words(rules_path))
         last = last_line(run)
         if last.startswith(TOO_LONG):
             raise BadRules(last.removeprefix(f"{BAD_RULES}: "))
         if last == BAD_RULES:
-            # The last line but one has the place and the reason.
+            # The second-to-last line has the place and the reason.
             raise BadRules(message_lines(run.stderr)[-2:][0].removeprefix("ggp_manager: "))
         if run.returncode:
             raise unchecked(run, name or rules_path)
 
     def verdicts(self, rules_path: pathlib.Path | str, records: Sequence[bytes]) -> list[str]:
-        """Returns the verdict of `verify` for each record, in words. Each record is one line, which begins with `{`."""
+        """Returns the verdict of `verify` for each record, as text. Each record is one line that begins with `{`."""
         run = self.call("verify", "--lines", JSON, *self.rules_words(rules_path), data=b"".join(records))
         verdicts = [LAWFUL if verdict["verdict"] == LAWFUL else f"not lawful: {verdict['fault']}" for verdict in read_objects(run) or ()]
         if len(verdicts) != len(records) or run.returncode != (0 if verdicts.count(LAWFUL) == len(verdicts) else NO):
@@ -182,8 +184,8 @@ class Referee:
         return verdicts
 
     def replays(self, rules_path: pathlib.Path | str, accounts: Sequence[bytes], records: Sequence[bytes]) -> list[bool]:
-        """Returns for each call log whether its calls reproduce its record. `replay` stops at the first one that does not, so this runs `replay`
-        again for the later ones. A brace before each call log ends the previous one."""
+        """Returns for each call log whether its calls reproduce its record. `replay` stops at the first call log that does not, so this
+        method runs `replay` again for the remaining ones. The brace before each call log marks the end of the previous one."""
         results = []
         while len(results) < len(accounts):
             done = len(results)

@@ -1,4 +1,4 @@
-"""Reports the progress of matches: a line when each begins and ends, and on a terminal the progress of all of them."""
+"""Reports the progress of matches: a line when a match begins and when it ends, and on a terminal also the progress of all matches."""
 
 import errno
 import os
@@ -13,7 +13,7 @@ from ggp_tools.printable import printable
 from ggp_tools.streams import lead_nowhere, say
 
 REDRAWN = 0.5
-# The reason for a match that `play` has not begun.
+# The reason that is reported for a match that `play` has not begun.
 NOT_BEGUN = "not begun"
 
 
@@ -24,7 +24,8 @@ def spell(seconds: float) -> str:
 
 
 class Journal:
-    """A file to which timestamped lines are appended. It is opened for the first line. If its last line was cut off, that line is ended first."""
+    """A file to which timestamped lines are appended. The file is opened when the first line is written. If the file ends with an
+    incomplete line, a line break is added first."""
 
     def __init__(self, path: pathlib.Path) -> None:
         self.path, self.file = path, -1
@@ -40,7 +41,7 @@ class Journal:
             os.write(self.file, b"\n")
 
     def write(self, text: str) -> None:
-        """Appends a line. The first error is kept in `fault` and stops all further writing; `play` checks it."""
+        """Appends a line. If this fails, stores the error in `fault`, which `play` checks, and writes nothing more."""
         if self.fault:
             return
         line = f"{moment()} {printable(text)}\n".encode("ascii")
@@ -54,9 +55,9 @@ class Journal:
 
 
 class Reporter:
-    """Writes lines to standard output and, if standard error is a terminal, rewrites one line there. The first error of standard output is kept in
-    `fault` and not raised, because open matches must continue. Errors of the terminal are ignored, because this line only repeats information that is
-    reported elsewhere."""
+    """Writes lines to standard output. If standard error is a terminal, also rewrites one line of progress there. The first error of
+    standard output is stored in `fault` and not raised, because open matches must continue. Errors of the terminal are ignored, because the
+    line of progress only repeats information that is reported elsewhere."""
 
     def __init__(self, journal: Journal | None = None) -> None:
         self.fault, self.journal = None, journal
@@ -86,7 +87,8 @@ class Reporter:
         self.say(text)
 
     def sum_up(self, text: str, *in_journal: str) -> None:
-        """Writes a summary. If the journal already has lines, it gets the summary too, or the lines `in_journal` instead."""
+        """Writes a summary to standard output. If the journal has been opened, also writes the summary, or the lines `in_journal` instead,
+        to the journal."""
         if self.journal and self.journal.is_open():
             for line in in_journal or [text]:
                 self.note(line)
@@ -105,7 +107,7 @@ class Reporter:
         self.line(f"begin {match.id} {match.game} {' '.join(match.players)}{on_host}")
 
     def ends(self, result: Result, seconds: float) -> None:
-        """Reports the goal of each player, the number of its replaced moves, and forfeits with their reason."""
+        """Reports the goal of each player, how many of its moves were replaced, and any forfeits with the reasons."""
         match = result.match
         goals = result.goals or ["none"] * len(match.players)
         parts = [", ".join(f"{player} {goal}" for player, goal in zip(match.players, goals))]
@@ -117,5 +119,5 @@ class Reporter:
         self.line(f"end {match.id} {match.game} {', '.join(parts)}, {seconds:.1f} s")
 
     def progress(self, over: int, open_count: int, to_come: int, left: float | None) -> None:
-        """Shows the numbers of matches and the time left."""
+        """Shows how many matches are finished, open and still to come, and the time left."""
         self.draw(f"finished {over}, open {open_count}, to come {to_come}, time left {'unknown' if left is None else spell(left)}")

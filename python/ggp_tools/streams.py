@@ -1,4 +1,4 @@
-"""Reads and writes files, including compressed ones, and standard streams, and formats errors."""
+"""Reads and writes files, which may be compressed, and standard streams. Formats error messages."""
 
 import argparse
 import contextlib
@@ -29,7 +29,7 @@ class Ended(Exception):
 
 @contextlib.contextmanager
 def opened(name: str | pathlib.Path) -> Iterator[BinaryIO]:
-    """Opens a file, or standard input for `-`, and decompresses it if it is a gzip file. An error names the file."""
+    """Opens a file, or standard input if the name is `-`. Decompresses a gzip file. Errors name the file."""
     is_input = str(name) == "-"
     where = STANDARD_INPUT if is_input else str(name)
     try:
@@ -44,7 +44,8 @@ def opened(name: str | pathlib.Path) -> Iterator[BinaryIO]:
 
 
 def limited_lines(file: BinaryIO, most: int) -> Iterator[tuple[bytes, bool]]:
-    """Yields at most this many bytes of each line of a file, and whether that is the whole line. Never has the rest of a line in memory."""
+    """Yields at most this many bytes of each line of a file, and whether that is the whole line. The rest of a long line is never in
+    memory."""
     while line := file.readline(most):
         rest = line
         while len(rest) == most and not rest.endswith(b"\n"):
@@ -53,13 +54,13 @@ def limited_lines(file: BinaryIO, most: int) -> Iterator[tuple[bytes, bool]]:
 
 
 def lead_nowhere(output: TextIO | None) -> None:
-    """Discards everything that is written to an output from now on, and everything in its buffer."""
+    """Discards the buffer of an output, and everything that is written to the output from now on."""
     os.dup2(os.open(os.devnull, os.O_WRONLY), output.fileno())
 
 
 def ready_streams() -> None:
-    """Opens /dev/null for each closed standard stream, so that no other file gets the stream's number. Characters that an encoding lacks are written
-    as escapes."""
+    """Opens /dev/null for each closed standard stream, so that no other file gets the stream's number. Standard output and standard error
+    write an escape for each character that their encoding lacks."""
     for number, (name, mode) in enumerate((("stdin", "r"), ("stdout", "w"), ("stderr", "w"))):
         if getattr(sys, name) is None:
             opened_number = os.open(os.devnull, os.O_RDWR)
@@ -74,7 +75,7 @@ def ready_streams() -> None:
 
 
 def say(text: str, end: str = "\n") -> None:
-    """Writes to standard output at once. After an error, which names standard output, all output is discarded."""
+    """Writes to standard output without delay. If this fails, raises an error that names standard output, and discards all later output."""
     if not sys.stdout:
         raise OSError(errno.EBADF, "it is closed", STANDARD_OUTPUT)
     try:
@@ -85,7 +86,7 @@ def say(text: str, end: str = "\n") -> None:
 
 
 def put_bytes(data: bytes) -> None:
-    """Writes bytes to standard output. An error names it."""
+    """Writes bytes to standard output. If this fails, the error names standard output."""
     try:
         with open(1, "wb", closefd=False) as output:
             output.write(data)
@@ -94,14 +95,14 @@ def put_bytes(data: bytes) -> None:
 
 
 def report(text: str) -> None:
-    """Writes lines to standard error if it is open. `print` would use standard output otherwise."""
+    """Writes lines to standard error. If standard error is closed, writes nothing, because `print` would then use standard output."""
     if sys.stderr:
         with contextlib.suppress(OSError):
             print("\n".join(map(shown, text.splitlines())), file=sys.stderr)
 
 
 def error_words(why: OSError) -> str:
-    """Returns the message of an error, after the name of its file."""
+    """Returns the name of an error's file, and the message of the error."""
     return f"{why.filename}: {why.strerror}" if why.filename else str(why.strerror or why)
 
 
@@ -124,7 +125,7 @@ def status_of(command: str, perform: Callable[[], int], failed: int, known: tupl
     except known as why:
         words = str(why)
     if words:
-        # The referee's own messages keep its name.
+        # A message of the referee already begins with the referee's name.
         report("\n".join(line if line.startswith("ggp_manager: ") else f"{command}: {line}" for line in words.splitlines()))
     return failed
 

@@ -27,14 +27,14 @@ def end_without(missing: ImportError) -> typing.NoReturn:
 
 
 def rows_of_text(data: bytes) -> "markupsafe.Markup":
-    """Returns HTML for a text that has several rows."""
+    """Returns HTML for a text of several rows."""
     import markupsafe
 
     return markupsafe.Markup("\n").join(map(visible, data.decode("latin-1").splitlines()))
 
 
 def policy(script: str) -> str:
-    """Returns the content security policy of a page: the page may use only its own script and styles."""
+    """Returns the content security policy of a page. It allows only the page's own script and styles."""
     own = f"script-src 'sha256-{base64.b64encode(hashlib.sha256(script.encode()).digest()).decode()}'; connect-src 'self'; " if script else ""
     return f"default-src 'none'; style-src 'unsafe-inline'; {own}base-uri 'none'; form-action 'none'"
 
@@ -79,7 +79,7 @@ def joined(parts: Sequence["markupsafe.Markup"]) -> "markupsafe.Markup":
 
 @functools.cache
 def macros(name: str) -> typing.Any:
-    """Returns the macros of a template. They return HTML."""
+    """Returns the macros of a template. Each macro returns HTML."""
     return environment().get_template(f"{name}.html").module
 
 

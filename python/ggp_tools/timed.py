@@ -1,4 +1,4 @@
-"""Limits the processor time of a part of a command."""
+"""Limits the processor time of a block of code."""
 
 import contextlib
 import signal
@@ -6,7 +6,7 @@ from collections.abc import Iterator
 
 
 class Late(Exception):
-    """The processor time is used up."""
+    """The limit of processor time has been reached."""
 
 
 def late(signal_number: int, frame: object) -> None:
@@ -15,7 +15,7 @@ def late(signal_number: int, frame: object) -> None:
 
 @contextlib.contextmanager
 def limited(seconds: float) -> Iterator[None]:
-    """Raises `Late` in a block that takes more than this much processor time."""
+    """Raises `Late` if the block uses more processor time than this."""
     signal.signal(signal.SIGPROF, late)
     try:
         signal.setitimer(signal.ITIMER_PROF, seconds)

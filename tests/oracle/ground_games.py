@@ -1,11 +1,12 @@
 #!/usr/bin/env python3
 """Writes NAME.out, the expected output of a desk for NAME.kif and NAME.script: the replies, and the match's record.
 
-ground_games.py NAME ..   writes them in the current directory
-ground_games.py --check   exits with status 1 if a file of examples/games differs from the expected output
+ground_games.py NAME .. writes them in the current directory ground_games.py --check exits with status 1 if a file of examples/games differs
+from the expected output
 
-This script is an oracle: it shares no code with the program or with `python`. It evaluates rules top-down by recursion, while the program evaluates
-each rule once in the order of ranks. It accepts only scripts of one match, without lines that the desk refuses, and without an abort."""
+This script is an oracle: it shares no code with the program or with `python`. It evaluates rules top-down, by recursion; the program
+evaluates each rule once, in the order of ranks. It accepts only scripts of one match, without rows that the desk refuses, and without an
+abort."""
 
 import argparse
 import json
@@ -25,7 +26,7 @@ def text_of(expression):
 
 
 class Game:
-    """The game of a description. A state is the set of its terms, a joint move a dict by role."""
+    """The game of a description. A state is the set of its terms. A joint move is a dict by role."""
 
     def __init__(self, sentences):
         self.rules = {}
@@ -84,7 +85,7 @@ class Game:
 
 
 class Match:
-    """A match on the desk, from its `open` line on."""
+    """A match on the desk. It begins with the row `open` of the script."""
 
     def __init__(self, game, words):
         name, start, play, *players = words

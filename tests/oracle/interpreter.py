@@ -13,7 +13,7 @@ GIVEN = {("true", 2), ("does", 3)}
 
 
 def read(text):
-    """Parses the expressions of a KIF text, in lower case: an atom is a string, a list a tuple."""
+    """Parses the expressions of a KIF text, in lower case. An atom becomes a string, and a list becomes a tuple."""
     levels = [[]]
     for word in re.sub(r";.*", "", text.lower()).replace("(", " ( ").replace(")", " ) ").split():
         if word == "(":
@@ -59,7 +59,7 @@ def fitted(pattern, term, values):
 
 
 def narrowed(head, question, values):
-    """Returns the values that the query gives to the variables of a rule's head, or None if the head cannot match the query."""
+    """Returns the values that the query gives to the variables of a rule's head. If the head cannot match the query, returns None."""
     if is_variable(question):
         return values
     if isinstance(head, str):
@@ -181,7 +181,7 @@ class Look:
         return known[key]
 
     def whole(self, circle, known):
-        """Returns all true sentences of recursive relations: derives sentences until no new one follows."""
+        """Returns all true sentences of recursive relations. Derives sentences until no new one follows."""
         if circle not in known:
             known[circle], count = Facts(fact for name in sorted(circle) for fact in self.game.facts.by_name.get(name, ())), -1
             try:
@@ -191,7 +191,8 @@ class Look:
                     more = [answer for name, head in asked for answer in self.derived(head, name)]
                     known[circle] = Facts([*known[circle].all, *more])
             except GoesRound:
-                # Incomplete results must be removed: the results of a cycle that does not depend on the state are kept after this query.
+                # Incomplete results must be removed, because the results of a cycle that does not depend on the state are used again after
+                # this query.
                 del known[circle]
                 raise
         return known[circle]
@@ -207,7 +208,8 @@ class Look:
                         yield answer
 
     def all_values(self, body, values):
-        """Yields the values of the variables for which each literal of a body is true. A negation is evaluated once its variables have values."""
+        """Yields the values of the variables for which all literals of a body are true. A negation is evaluated when all its variables have
+        values."""
         if not body:
             yield values
             return
@@ -235,8 +237,8 @@ class Look:
 
 
 def grouped(asks):
-    """Returns the relations that have rules, grouped by mutual dependence. Each group comes after those that it depends on."""
-    # (Tarjan's algorithm, with a list of open nodes instead of recursion, because a chain may be long)
+    """Groups the relations that have rules by mutual dependence. Each group comes after the groups on which it depends."""
+    # This is Tarjan's algorithm, with a list of open nodes instead of recursion, because a chain may be long.
     groups, places, lowest, path, done = [], {}, {}, [], set()
     for first in asks:
         calls = [] if first in places else [(first, iter(asks[first]))]
@@ -264,7 +266,7 @@ def grouped(asks):
 
 
 class Game:
-    """The game of a description. A state is the set of its terms, a joint move has a move for each role."""
+    """The game of a description. A state is the set of its terms. A joint move has a move for each role."""
 
     def __init__(self, text):
         self.rules, self.fixed, self.legals, facts = {}, {}, [], []
@@ -312,7 +314,7 @@ class Game:
         return any(not (is_variable(argument) or is_ground(argument)) for sentence in asked if name_of(sentence) in circle for argument in sentence[1:])
 
     def asked(self, state, joint, work):
-        """Answers a query in a state. If a relation turns out to be recursive, starts again."""
+        """Answers a query in a state. If a relation turns out to be recursive, starts the answer again."""
         does = [("does", role, move) for role, move in zip(self.roles, joint)] if joint else []
         while True:
             try:
@@ -330,7 +332,7 @@ class Game:
         return self.asked(state, joint, lambda look: frozenset(term for _, term in look.answers(("next", "?term"))))
 
     def view(self, state, more=None):
-        """Returns the legal moves and the goals of each role, as sets, whether the game has ended, and the result of `more`, if any."""
+        """Returns the legal moves and the goals of each role as sets, whether the game has ended, and, if `more` is given, its result."""
 
         def seen(look):
             legal = [{move for _, _, move in look.answers(("legal", role, "?move"))} for role in self.roles]

@@ -1,14 +1,13 @@
 #!/usr/bin/env python3
-"""Writes the expected output of `verify` for records of Countdown. This script is an oracle: it shares no code with the program or with `python`. It
-replays a record according to docs/RECORDS.md.
+"""Writes the expected output of `verify` for records of Countdown. This script is an oracle: it shares no code with the program or with
+`python`. It replays each record according to docs/RECORDS.md.
 
 records.py                    writes NAME.word for each NAME.record of examples/records
 records.py --check            exits with status 1 if one of these files differs from the expected output
 records.py --random SEED MATCHES CHANGES
                               prints records of random matches, each followed by CHANGES copies with one change
 records.py --program PROGRAM  checks with the program these records, random matches, and copies of each with one change, and exits with
-                              status 1 if a verdict differs
-"""
+                              status 1 if a verdict differs"""
 
 import argparse
 import copy
@@ -31,7 +30,7 @@ MOST_LISTS = 64
 
 
 class Countdown:
-    """In each turn one or two are taken from a heap. The player to move when the heap is empty loses."""
+    """In each turn, a player takes one or two from a heap. If it is a player's turn and the heap is empty, this player loses."""
 
     def __init__(self, heap, turn=0):
         self.heap, self.turn = heap, turn
@@ -167,7 +166,7 @@ def fault_of_turn(state, strikes, turns, turn, moves, errors):
 
 
 def is_end(record, state, strikes):
-    """Returns whether phase, cause, marks and the last state agree with a row of the table in docs/RECORDS.md."""
+    """Returns whether the phase, the cause, the marks and the last state agree with a row of the table in docs/RECORDS.md."""
     started = None not in record["startMarks"]
     ended = None not in record["endMarks"]
     unended = record["endMarks"] == [None, None]

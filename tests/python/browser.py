@@ -40,7 +40,7 @@ FAINT = """
   }
   return found;
 })()"""
-# The focused element: its index among all focusable ones, its address or title, and whether its focus is visible.
+# Describes the focused element: its index among all focusable elements, its address or title, and whether its focus is visible.
 REACHED = """
 (() => {
   const it = document.activeElement, all = [...document.querySelectorAll("a, button, [tabindex]")];
@@ -116,7 +116,7 @@ class Browser:
 
 
 class Page:
-    """A page of a browser, as people see it."""
+    """A page of a browser. Tests see it as people do."""
 
     def __init__(self, browser: Browser, session: str, target: str) -> None:
         self.browser, self.session, self.target = browser, session, target
@@ -132,14 +132,14 @@ class Page:
         self.browser.tell("Target.closeTarget", targetId=self.target)
 
     def value(self, expression: str) -> typing.Any:
-        """Returns the value of an expression of JavaScript."""
+        """Returns the value of a JavaScript expression."""
         answer = self.tell("Runtime.evaluate", expression=expression, returnByValue=True, awaitPromise=True)
         if "exceptionDetails" in answer:
             raise RuntimeError(f"{expression}: {answer['exceptionDetails']}")
         return answer["result"].get("value")
 
     def until(self, expression: str) -> typing.Any:
-        """Waits until an expression is true, and returns its value."""
+        """Waits until a JavaScript expression is true, and returns its value."""
         ends = time.monotonic() + HANGS
         while time.monotonic() < ends:
             try:
@@ -167,7 +167,7 @@ class Page:
             self.tell("Input.dispatchKeyEvent", type=kind, key=key, code=key, windowsVirtualKeyCode=KEYS[key], **text)
 
     def reached(self) -> tuple[int, str, bool]:
-        """Returns the index of the focused element among all focusable ones, its address or title, and whether the focus is visible."""
+        """Describes the focused element: its index among all focusable elements, its address or title, and whether its focus is visible."""
         at, name, is_seen = self.value(REACHED)
         return at, name, is_seen
 

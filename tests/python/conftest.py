@@ -11,7 +11,7 @@ from support import program
 
 sys.dont_write_bytecode = True
 os.environ["PYTHONDONTWRITEBYTECODE"] = "1"
-# Each run has the same examples, without a deadline, because the computer may be busy.
+# Hypothesis tries the same examples in each run. There is no deadline, because the computer may be busy.
 settings.register_profile("fixed", derandomize=True, deadline=None, database=None, suppress_health_check=[HealthCheck.too_slow])
 settings.load_profile("fixed")
 # These modules play matches and take the longest. They begin first, so that no worker still runs one of them at the end.

@@ -1,4 +1,4 @@
-"""Plays matches by ground rules, with some late and some illegal answers, and checks their records against a description."""
+"""Plays matches under ground rules, with some late and some illegal answers, and checks their records against a description."""
 
 import contextlib
 import io
@@ -29,7 +29,7 @@ def instantiated(text: str, how: str = making.WHERE_NEEDED, is_split: bool = Fal
 
 
 def begun(sentences: Sentences) -> ground_games.Match:
-    """Returns a match by ground rules, ready for its first turn."""
+    """Returns a match under ground rules, ready for its first turn."""
     game = ground_games.Game(sentences)
     match = ground_games.Match(game, ["m", "1", "1", *(f"p{at}" for at in range(len(game.roles)))])
     match.marks["start"] = dict.fromkeys(range(len(game.roles)), "")
@@ -71,7 +71,7 @@ def played_again(sentences: Sentences, record: Record) -> Record:
 
 
 def judged(dice: random.Random, legal: Sequence[Expression], every: Sequence[Expression]) -> tuple[Expression, str]:
-    """Returns the move of an answer, and its error."""
+    """Returns the move that is played for a random answer, and the error of the answer."""
     kind = dice.random()
     if kind < 0.2:
         return legal[0], "TO"

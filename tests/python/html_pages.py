@@ -4,7 +4,7 @@ import warnings
 
 import bs4
 
-# The text of a page may be a single word, which the parser would take for a file name.
+# The text of a page may be a single word. The parser would take a word for a file name.
 warnings.filterwarnings("ignore", category=bs4.MarkupResemblesLocatorWarning)
 Page = bytes | str
 

@@ -12,7 +12,7 @@ from ggp_tools.match_log import End, Message, Open, line_of
 from planning import planned
 from support import toml
 
-# Two roles take one or two from a heap of three, in turns. The role that takes the last one wins.
+# Two roles take turns, and take one or two from a heap of three. The role that takes the last one wins.
 RULES = b"""
 (role red) (role blue)
 (init (heap 3)) (init (turn red)) (init (cell 1 1 white man)) (init (cell 2 2 black king))
@@ -44,7 +44,8 @@ def look(reader: Reader) -> None:
 
 
 def plan_in(room: str, names: list[str], rounds: int = 1, head: str = "", rules: bytes = RULES, roles: tuple[str, ...] = ("red", "blue")) -> Plan:
-    """Plans a round robin of these players, and makes the directory without the files of a plan."""
+    """Plans a round robin of these players. In the directory, makes only the subdirectories and the rules, and none of the other files of a
+    plan."""
     folder = Folder(pathlib.Path(room))
     folder.make(folder.records, folder.logs, folder.open, folder.rules)
     folder.rules_of("heap").write_bytes(rules)
@@ -71,7 +72,7 @@ def opened(match: object, time: int | None = None) -> str:
 
 
 def begin(plan: Plan, match: object, log: str = "") -> pathlib.Path:
-    """Begins a match, and returns the file of its log."""
+    """Begins a match. Returns the file of its log."""
     room = plan.folder.open / match.id
     room.mkdir(parents=True, exist_ok=True)
     for name in ("asking", "players", "playing"):

@@ -81,7 +81,7 @@ def placed(rows, key):
 
 
 def crosstable(records, forfeit, games=None):
-    """For each pair of players, returns the points of the first against the second, and the number of their matches."""
+    """Returns for each pair of players the points of the first against the second, and the number of their matches."""
     found = {}
     for record in records:
         goals, gone = counting_goals(record, forfeit)
@@ -111,7 +111,8 @@ def points_of(records, forfeit):
 
 
 def swiss_standings(names, games, rounds, records, forfeit):
-    """Returns the players in order with points and Buchholz score, after rounds. Each round has pairs, and a bye or None."""
+    """Returns the players in order after some rounds, each with points and Buchholz score. A round has pairs, and the player with the bye
+    or None."""
     points, _ = points_of(records, forfeit)
     total = {name: points.get(name, 0) + sum(2 * games for _, bye in rounds if bye == name) for name in names}
     buchholz = {name: sum(total[(set(pair) - {name}).pop()] for pairs, _ in rounds for pair in pairs if name in pair) for name in names}
@@ -157,13 +158,14 @@ def knockout_winner(pair, records, names, forfeit):
 
 
 def knockout_places(names):
-    """Returns the seeds in the order of the bracket: in each half, quarter and so on, the best seed meets the worst. None is an empty place."""
+    """Returns the players in the order of the bracket: in each half, quarter and so on, the best seed meets the worst. An empty place is
+    None."""
     size = 1
     while size < len(names):
         size *= 2
 
     def part(seed, width):
-        # With this width, a seed and its opponent add up to 2 * width - 1. Each begins a part.
+        # If a part of the bracket has a seed, its opponent has the seed 2 * width - 1 - seed. Each of the two begins a half of the part.
         return [seed] if width == size else part(seed, 2 * width) + part(2 * width - 1 - seed, 2 * width)
 
     return [names[seed] if seed < len(names) else None for seed in part(0, 1)]

@@ -8,18 +8,18 @@ import time
 from driving.asking import body_of as message_of
 from support import outside
 
-# The code of the example players, and not the package, reads START and the rules.
+# START and the rules are parsed by the code of the example players, not by the package.
 example, interpreting = outside("player"), outside("interpreting")
 
 SLOW, DRIP, AWAY = 0.12, 0.3, 1.0
-# A player that dies does so at each PLAY message with this number.
+# A player that dies does so whenever it receives the PLAY message with this number.
 LIFE = 7
-# Sockets that accept no connection. Each reserves the port of a player while the player is away or gone.
+# Sockets that accept no connection. Each reserves the port of a player that is away or gone.
 HELD = []
 
 
 def held_port(at):
-    """Returns a port of an address. While the tests run, only a player listens on this port."""
+    """Returns a port of an address. While the tests run, no other program listens on this port."""
     HELD.append(socket.socket())
     HELD[-1].setsockopt(socket.SOL_SOCKET, socket.SO_REUSEADDR, 1)
     HELD[-1].bind((at, 0))
@@ -27,8 +27,8 @@ def held_port(at):
 
 
 class TestPlayer(threading.Thread):
-    """A strict player: if it already plays its maximum number of matches, it answers INFO accordingly, and refuses START. It keeps the matches that
-    it accepted, and the rules of each. It can play with ground rules and with rules with variables."""
+    """A strict player: while it plays its maximum number of matches, it answers INFO accordingly, and refuses START. It remembers the
+    matches that it accepted, and the rules of each. It can play under ground rules and under rules with variables."""
 
     __test__ = False
 
@@ -37,15 +37,15 @@ class TestPlayer(threading.Thread):
         self.name, self.kind, self.random = name, kind, random.Random(seed)
         # The player's role, game and state in each match that it plays.
         self.matches, self.most, self.plays = {}, most, 0
-        # The most matches that it has played at once.
+        # The maximum number of matches that it has played at the same time.
         self.sat = 0
-        # The ids of the matches that began, of those that were aborted, and of those that were offered during another match.
+        # The ids of the matches that began, of the matches that were aborted, and of the matches that were offered during another match.
         self.begun, self.aborted, self.clashes = [], [], []
         # The kind and the match of each message of a match, in order.
         self.heard = []
         self.told = {}
         self.status, self.is_gone = None, False
-        # How many seconds it thinks before it answers a message of one of these kinds.
+        # For each kind of message, how many seconds it thinks before it answers.
         self.thinks, self.thinks_at = 0.0, ("play",)
         self.at, self.port = at, held_port(at)
         self.come_back()
@@ -55,7 +55,7 @@ class TestPlayer(threading.Thread):
         return f"{self.at}:{self.port}"
 
     def go_away(self):
-        """Stops listening, and keeps the player's state."""
+        """Stops listening, but keeps the player's state."""
         self.socket.shutdown(socket.SHUT_RDWR)
         self.socket.close()
 

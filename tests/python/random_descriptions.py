@@ -1,6 +1,6 @@
-"""Random small descriptions with variables. Each description is grounded in four forms, which must describe the same game. Each description has
-facts, recursive relations, states with nested terms, moves, and nested negations and `or`s. One form is used to play three matches. With the other
-forms, the same answers must give the same records, and each record is checked against the description."""
+"""Random small descriptions with variables. Each has facts, recursive relations, states with nested terms, moves, and nested negations and
+`or`s. Each description is grounded in four forms, which must describe the same game. Three matches are played with one form. With the other
+forms, the same answers must give the same records. Each record is checked against the description."""
 
 import random
 
@@ -104,7 +104,7 @@ class Describing:
         return [*found, *self.add_relations("f", found, 2)]
 
     def add_relations(self, word: str, known: list[Source], count: int = 4) -> list[Source]:
-        """Adds relations that use known ones, earlier ones, and sometimes themselves or the next one."""
+        """Adds relations that use the known ones, earlier ones of this kind, and sometimes themselves or the next one."""
         found: list[Source] = []
         made = [Source(f"{word}{at}", tuple(self.dice.choice((PLAIN, PLAIN, AROUND, ROLE)) for _ in range(self.dice.choice((0, 1, 1, 2, 2))))) for at in range(count)]
         at = 0

@@ -13,7 +13,7 @@ import types
 import unittest
 
 TOP = pathlib.Path(__file__).resolve().parents[2]
-# Code that shares nothing with the package: the oracles, and the example players.
+# Modules that share no code with the package: the oracles, and the example players.
 OUTSIDE = [str(TOP / "tests/oracle"), str(TOP / "examples/players")]
 
 # The grounding cache of the tests lasts only for this run.
@@ -21,7 +21,7 @@ CACHE = tempfile.TemporaryDirectory()
 os.environ["XDG_CACHE_HOME"] = CACHE.name
 COMMAND = TOP / "python/ggp_competition"
 GAMES = TOP / "examples/games"
-# Three roles, one turn: a role wins if neither of the others shows the same.
+# Three roles play one turn. A role wins if neither of the others makes the same move.
 ODD = """
 (role one) (role two) (role three) (init new)
 (<= (legal one head) (true new)) (<= (legal one tail) (true new))
@@ -69,7 +69,7 @@ def stand_in(**answers):
 
 
 def wait_until(holds):
-    """Waits until a condition holds. If it never holds, the time limit of the whole run ends the wait."""
+    """Waits until a condition holds. If it never does, the time limit of the whole test run ends the wait."""
     while not holds():
         time.sleep(0.02)
 
@@ -84,7 +84,8 @@ def raised(kind, ask, *arguments, **more):
 
 
 def toml(players, games, form='kind = "round_robin"', head=""):
-    """Returns the text of a competition.toml. A player begins with its name and address, a game with its name and file; further keys may follow."""
+    """Returns the text of a competition.toml. Each player is given by its name, its address and further keys, and each game by its name,
+    its file and further keys."""
     lines = ['name = "cup"', *head.splitlines(), "[form]", *form.splitlines()]
     for name, file, *more in games:
         lines += ["[[games]]", f'name = "{name}"', f'file = "{file}"', *more]

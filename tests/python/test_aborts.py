@@ -55,7 +55,7 @@ class Aborts(unittest.TestCase):
 
 
 class Words:
-    """A fake referee whose command for an address runs the address as a script."""
+    """A fake referee. Its command for an address runs the address as a script."""
 
     def __init__(self):
         self.begun = []

@@ -1,4 +1,4 @@
-"""Which matches may be played again, and the files for this."""
+"""Rematches: which matches may be played again, and which files this changes."""
 
 import dataclasses
 import pathlib

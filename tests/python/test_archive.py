@@ -1,4 +1,5 @@
-"""`check` accepts an archive in another directory, and refuses it after each of many corruptions. Most of these have matching checksums."""
+"""`check` accepts an archive in another directory. After each of many corruptions, it refuses the archive, although most of the corruptions
+include matching checksums."""
 
 import errno
 import gzip
@@ -36,7 +37,7 @@ def packed(files, fits=True):
 
 
 def changed(name, change):
-    """Returns a corruption that changes one file, and then the checksums to match."""
+    """Returns a corruption that changes one file and then updates the checksums."""
 
     def spoil(files):
         before = files[name]
@@ -60,7 +61,7 @@ def without(*names):
 
 
 def nonsense(files):
-    """Replaces a description, and the checksums in the archive and in the rules to match."""
+    """Replaces a description, and updates the checksums of the archive and of the rules."""
     text, sums = b"(role nonsense)\n", "cup/rules/DESCRIPTIONS.sha256"
     old = hashlib.sha256(files["cup/games/odd.kif"]).hexdigest()
     files["cup/games/odd.kif"] = text
@@ -69,7 +70,7 @@ def nonsense(files):
 
 
 def moved_calls(files):
-    """Moves the last calls of a match to the top of the call log of the match before it. Both are replayed together."""
+    """Moves the last calls of a match to the top of the call log of the match before it. `check` replays both call logs together."""
     first, second = "cup/accounts/cup-001.txt", "cup/accounts/cup-002.txt"
     head, *rest = files[second].splitlines(keepends=True)
     files[first], files[second] = files[first] + head, b"".join(rest)
@@ -77,7 +78,7 @@ def moved_calls(files):
 
 
 def better(data):
-    """Returns a record with other goals."""
+    """Returns a record with different goals."""
     record = json.loads(data)
     record["goalValues"] = record["goalValues"][::-1]
     return (json.dumps(record, separators=(",", ":")) + "\n").encode()
@@ -152,7 +153,7 @@ class Archive(unittest.TestCase):
         return files_of(self.archive)
 
     def plain_spoilings(self, files):
-        """Returns the corruptions that are not changes of one file with matching checksums."""
+        """Returns the corruptions that are not a change of one file with updated checksums."""
         data = self.archive.read_bytes()
         record = files["cup/records/cup-001.json"]
         raw = gzip.decompress(data)

@@ -74,7 +74,7 @@ class Made(unittest.TestCase):
         self.path = self.room / "cup.tar.gz"
 
     def end(self, match, goals):
-        """Writes the files of a match. The call log has the calls that follow from the match's log."""
+        """Writes the files of a match. The calls in the call log are those that follow from the match's log."""
         folder = self.plan.folder
         folder.record(match.id).write_text(json.dumps(record_of(match, [["(take 2)", "noop"], ["noop", "(take 1)"]], [["", ""], ["", ""]], goals)) + "\n")
         calls = "".join(f"{at + 1}\tnext {match.id} {at}\towe 0 start\n{at + 1}\tsubmit {match.id} {at} 0 ready\ttaken\n" for at in (0, 1))
@@ -126,7 +126,7 @@ class Checked(Made):
             (lambda files: packed({**files, "cup/accounts/cup-004.txt": b"a"}), "accounts/cup-004.txt is not part of this competition"),
             (lambda files: packed({**files, "cup/records/cup-004.json": b"a"}), "records/cup-004.json: it belongs to no match of the schedule"),
             (lambda files: packed({**files, "cup/play.log": b"2026\n"}), None),
-            (changed("cup/VERSION", lambda _: b"ggp_manager 1.2.3"), "VERSION is not one line `ggp_manager N.N.N`"),
+            (changed("cup/VERSION", lambda _: b"ggp_manager 1.2.3"), "VERSION is not one line of the form `ggp_manager N.N.N`"),
             (without("cup/VERSION"), "VERSION is missing"),
             (without("cup/CHECK.txt"), "CHECK.txt is missing"),
             (changed("cup/CHECK.txt", more), "CHECK.txt does not follow from the records"),
@@ -135,7 +135,6 @@ class Checked(Made):
             (without("cup/accounts/cup-002.txt"), "cup-002: its call log is missing"),
             (changed("cup/accounts/cup-001.txt", lambda data: data.replace(b"0 ready", b"0 go")), "cup-001: line 2 of its log does not agree with its call log"),
             (changed("cup/games/heap.kif", more), "games/heap.kif is not the description that the rules of heap were made from"),
-            (changed("cup/VERSION", lambda _: b"ggp_manager 9.9.9\n"), None),
             (changed("cup/VERSION", lambda _: b"ggp_manager 0.10.0\n"), None),
             (changed("cup/VERSION", lambda _: b"ggp_manager 0.2.0\n"), "it was published with ggp_manager 0.2.0: check it with that version, since its logs are not JSON"),
         ):
@@ -144,6 +143,8 @@ class Checked(Made):
             self.assertEqual(bool(faults), bool(words), (faults, words))
             if not words:
                 self.assertIn("the table and the pages are right", said)
+        said = self.check(changed("cup/VERSION", lambda _: b"ggp_manager 9.9.9\n")(dict(files)))[1]
+        self.assertTrue(said.endswith("; published with ggp_manager 9.9.9, checked by ggp_manager 1.2.3"), said)
 
     def test_all_that_is_wrong_is_told_at_once(self):
         self.publish()
@@ -163,6 +164,9 @@ class Checked(Made):
         self.publish()
         self.referee.wrong = {b'"cup-002"': "not lawful: goals"}
         self.assertEqual(self.check()[0], ["cup-002: not lawful: goals"])
+        self.referee.wrong = {}
+        other = changed("cup/records/cup-001.json", lambda data: data.replace(b'"startClock": 5', b'"startClock": 7'))
+        self.assertEqual(self.check(other(files_of(self.path)))[0], ["cup-001: its startClock is 7, but the schedule has 5"])
         self.referee.unchecked = "`ggp_manager verify` gave no verdict for {}: it printed nothing, status 3"
         why = raised(Unchecked, self.check)
         self.assertEqual(str(why), "`ggp_manager verify` gave no verdict for cup/rules/heap.kif: it printed nothing, status 3")
@@ -199,13 +203,16 @@ class Checked(Made):
         self.assertEqual(files_of(self.path)["cup/play.log"], b"2026\n")
 
     def test_what_is_of_its_history_is_in_the_archive(self):
-        folder = self.plan.folder
+        folder, planned = self.plan.folder, self.plan.text
+        folder.competition.write_bytes(b"wait = 3\n" + planned)
+        self.plan = read_plan(str(self.folder), self.referee)
         folder.make(folder.earlier)
         (folder.earlier / "2.toml").write_bytes(b"before")
         folder.again.write_bytes(b"again")
         self.publish()
         files = files_of(self.path)
         self.assertEqual((files["cup/earlier/2.toml"], files["cup/again.tsv"]), (b"before", b"again"))
+        self.assertEqual((files["cup/competition.toml"], files["cup/planned.toml"]), (b"wait = 3\n" + planned, planned))
 
     def test_plan_keeps_as_many_earlier_files_as_check_accepts(self):
         file = self.plan.folder.competition
@@ -270,8 +277,9 @@ class Checked(Made):
         lines = [f"error {number}" for number in range(5_000)]
         with mock.patch.object(archive, "unpack", side_effect=Spoilt("\n".join(["x" * 3_000_000, *lines]))):
             self.assertEqual(self.check(), (["x" * 1_000 + "..", *lines[:99], "there are 4,901 more errors"], ""))
-        with mock.patch.object(archive, "what_is_right", side_effect=Spoilt("\n".join(lines[:101]))):
-            self.assertEqual(self.check()[0][-1], "there is 1 more error")
+        for count, more in ((100, []), (101, ["there is 1 more error"])):
+            with mock.patch.object(archive, "what_is_right", side_effect=Spoilt("\n".join(lines[:count]))):
+                self.assertEqual(self.check()[0], [*lines[:100], *more])
 
     def test_a_huge_file_is_not_read(self):
         self.publish()
@@ -281,7 +289,7 @@ class Checked(Made):
             self.assertLess(file.stat().st_size, 1 << 20, file)
             return read(file)
 
-        for name, fault in (("VERSION", "VERSION is not one line `ggp_manager N.N.N`"), ("table.txt", "table.txt does not follow from the records"), ("pages/index.html", "pages/index.html does not follow from the records")):
+        for name, fault in (("VERSION", "VERSION is not one line of the form `ggp_manager N.N.N`"), ("table.txt", "table.txt does not follow from the records"), ("pages/index.html", "pages/index.html does not follow from the records")):
             data = packed({**files, f"cup/{name}": bytes(1 << 20)})
             with mock.patch("pathlib.Path.read_bytes", small):
                 self.assertEqual(self.check(data)[0], [fault])
@@ -309,7 +317,7 @@ class Rounds(Made):
 
 
 class Held(Made):
-    """Matches of games with variables are checked with the descriptions."""
+    """Matches of games with variables are compared with the descriptions."""
 
     def held(self, *words):
         games = [types.SimpleNamespace(name=name) for name in ("heap", "other", "third")]
@@ -326,7 +334,7 @@ class Held(Made):
     def test_what_is_said_of_them(self):
         same = "the same: 2 turns"
         self.assertEqual(self.held(same, same, same), ("; 3 matches agree with descriptions that have variables", []))
-        self.assertEqual(self.held(same, "differs: x", same), ("; 2 matches agree with descriptions that have variables", ["cup-002: compared with games/heap.kif it differs: x"]))
+        self.assertEqual(self.held(same, "differs: x", same), ("; 2 matches agree with descriptions that have variables", ["cup-002: compared with games/heap.kif, it differs: x"]))
         said = "; 1 match agrees with descriptions that have variables, and 2 could not be followed: cup-001 not followed: a, cup-003 not followed: b"
         self.assertEqual(self.held("not followed: a", same, "not followed: b"), (said, []))
         said = "; 0 matches agree with descriptions that have variables, and 3 could not be followed: cup-001 not followed: a, cup-002 not followed: a, cup-003 not followed: a"
@@ -336,7 +344,7 @@ class Held(Made):
     def test_a_match_that_differs_is_a_fault_of_the_archive(self):
         self.publish()
         with mock.patch.object(archive, "has_variables", lambda _: True), mock.patch.object(archive, "comparisons", lambda _, records: ["differs: y" for _ in records]):
-            self.assertEqual(self.check(), ([f"cup-00{at}: compared with games/heap.kif it differs: y" for at in (1, 2, 3)], ""))
+            self.assertEqual(self.check(), ([f"cup-00{at}: compared with games/heap.kif, it differs: y" for at in (1, 2, 3)], ""))
         with mock.patch.object(archive, "has_variables", lambda _: True), mock.patch.object(archive, "comparisons", lambda _, records: ["the same: 2 turns" for _ in records]):
             self.assertIn("the pages are right; 3 matches agree with descriptions that have variables; published with", self.check()[1])
 

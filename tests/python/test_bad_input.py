@@ -95,7 +95,7 @@ class BadInput(InFolder):
             except Refused:
                 self.assertIn(stop, (1, 2))
                 continue
-            # The rules on disk are the old ones, or those of the new description.
+            # The rules on disk are either the old ones or those of the new description.
             wrong = list(faults_of_descriptions(plan, plan.folder.description))
             self.assertEqual((plan.rules["game"].text == game.read_bytes(), bool(wrong)), (stop > 0, stop == 0), written)
 
@@ -103,8 +103,8 @@ class BadInput(InFolder):
         game, referee = self.folder / "game.kif", stand_in(roles=lambda *_: ("robot",))
         buttons = (GAMES / "buttons.kif").read_text()
         for text, words in (
-            ("(role robot)", "no match of it can begin: it is aborted at the start with `nolegal robot`"),
-            ("(role robot) (<= terminal (role robot))", "no match of it can begin: it is aborted at the start with `nogoal robot`"),
+            ("(role robot)", "none of its matches can begin: each is aborted at the start with `nolegal robot`"),
+            ("(role robot) (<= terminal (role robot))", "none of its matches can begin: each is aborted at the start with `nogoal robot`"),
             (buttons.replace("(<= terminal solved", "(=> terminal solved").replace("robot 0", "robto 0"), "all of 5 random matches were aborted, with `nogoal robot`"),
             (buttons, ""),
         ):
@@ -119,7 +119,7 @@ class BadInput(InFolder):
             (self.folder / "schedule.tsv").unlink()
 
     def test_a_game_whose_matches_are_long_is_planned_and_told(self):
-        for fault, words in ((TimeIsOver(), "no random match of it ended within 10 s"), (RecursionError(), "it was not tested: its rules depend on one another too deeply")):
+        for fault, words in ((TimeIsOver(), "none of its random matches ended within 10 s"), (RecursionError(), "it was not tested: its rules depend on one another too deeply")):
             with mock.patch("ggp_tools.descriptions.random_matches.RandomMatches.play", side_effect=fault):
                 why, note = trial(b"(role a)", None, "game")
             self.assertIsNone(why)
@@ -212,14 +212,14 @@ class BadInput(InFolder):
     @unittest.skipUnless(shutil.which("gringo"), "gringo is not installed")
     def test_what_instantiate_says_of_rules_is_told(self):
         (self.folder / "coins.kif").write_text("(role a) (init (s 101)) (<= (goal a ?x) (true (s ?x))) (goal a 7)")
-        # The first line is a comment of the author, and not of `ggp-instantiate`.
+        # The first line is a comment by the author, not by `ggp-instantiate`.
         (self.folder / "one.kif").write_text("; a comment\n" + (GAMES / "buttons.kif").read_text())
         self.write(PLAYERS, [("coins", "coins.kif", "aborts = true"), ("one", "one.kif")])
         status, out, said = run(self.folder, "plan")
         self.assertEqual((status, said, [line.split(":")[0] for line in out.splitlines()]), (0, "", ["coins", "coins", "one", "schedule.tsv"]))
         self.assertEqual(out.splitlines()[1], (
-            "coins: goals above 100 are left out (1, the first by sentence 2, line 1: (<= (goal a ?x) (true (s ?x)))): if one would hold at the end, the role gets the other goal that holds there; "
-            "if there is none, the match has no goals"
+            "coins: goals above 100 are left out (1, the first by sentence 2, line 1: (<= (goal a ?x) (true (s ?x)))): if a role would have such a goal value at the end, it gets its other goal value; "
+            "if it has no other, the match has no goal values"
         ))
 
     def test_an_instantiation_that_is_ended(self):
@@ -334,7 +334,7 @@ class BadInput(InFolder):
     def test_an_unwritable_folder(self):
         self.write(PLAYERS, [("tictactoe", GAMES / "tictactoe.kif")])
         self.folder.chmod(0o555)
-        # Without this capability, file permissions apply to root too.
+        # Without this capability, file permissions also apply to root.
         before = [] if os.geteuid() else ["setpriv", "--bounding-set=-dac_override"]
         words = [*before, sys.executable, COMMAND, "plan", "--program", program()]
         said = subprocess.run(words, cwd=self.folder, capture_output=True, text=True)

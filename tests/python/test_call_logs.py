@@ -80,7 +80,7 @@ class LogFaults(unittest.TestCase):
         before = LOG.replace("ready", "wrong")
         self.assertEqual(self.fault(before), "line 2 of its log does not agree with its call log")
         self.assert_foreign(LOG + LOG, 10)
-        # Only the events after the match began again are published.
+        # Only the events since the match began again are published.
         self.assert_foreign("".join([*LINES[:3], LINES[0], *LINES[3:]]), 2)
         lost = line_of(Other("lost", {"match": "cup-001", "time": 5, "reason": "gone"})).decode()
         self.assertEqual(published(f"Welcome\x1b[1m\n{before}{lost}{LOG}".encode(), "cup-001"), LOG.encode())
@@ -91,7 +91,7 @@ class LogFaults(unittest.TestCase):
             Other("lost", {"match": "cup-001", "time": 5, "reason": "bob was seen cheating"}), Other("held", {"match": "cup-001", "reason": None}),
         )
         for text in ("ggp_manager: bob was seen cheating\n", "\n", "{}\n", *(line_of(event).decode() for event in events)):
-            # A host begins another run of the match.
+            # The event about a host begins another run of the match.
             self.assert_foreign(LOG + text, 1 if "host" in text else 10)
             if "host" not in text:
                 self.assertEqual(published(f"{LOG}{text}".encode(), "cup-001"), LOG.encode())
@@ -219,12 +219,12 @@ class Accounts(unittest.TestCase):
         for call in calls:
             for at in range(1, len(CALL_LINES) + 1):
                 shown = call.decode().strip("\n").replace("\t", " ")
-                words = f"line {at + 1} of its call log is not a call that a referee makes there: {shown}"
+                words = f"line {at + 1} of its call log is not a call that a referee would make at this point: {shown}"
                 self.assertEqual(self.fault(*CALL_LINES[:at], call, *CALL_LINES[at:]), words)
 
     def test_each_line_is_needed_where_another_follows_from_it(self):
         for at in (1, 2, 3, 6, 7, 8, 9, 10, 11, 12):
-            self.assertRegex(self.fault(*CALL_LINES[:at], *CALL_LINES[at + 1 :]), r"line \d+ of its call log is not a call that a referee makes there: ")
+            self.assertRegex(self.fault(*CALL_LINES[:at], *CALL_LINES[at + 1 :]), r"line \d+ of its call log is not a call that a referee would make at this point: ")
 
     def test_a_role_that_waits_asks_as_often_as_its_clock_allows(self):
         head, most = CALL_LINES[0].replace(b"0 5 5", b"0 7 6"), MOST_HOLDS + 2 * 2
@@ -232,7 +232,7 @@ class Accounts(unittest.TestCase):
             before, after = (head, *CALL_LINES[1:at]), [line for line in CALL_LINES[at:] if line != hold]
             self.assertIsNone(self.fault(*before, *[hold] * (most + clock), *after))
             fault = self.fault(*before, *[hold] * (most + clock + 1), *after)
-            self.assertRegex(fault, f"line {at + most + clock + 1} of its call log is not a call that a referee makes there: . next cup-001 . hold")
+            self.assertRegex(fault, f"line {at + most + clock + 1} of its call log is not a call that a referee would make at this point: . next cup-001 . hold")
 
     def test_a_history_has_a_greatest_length(self):
         with mock.patch.object(call_logs, "MOST_CALLS", len(CALL_LINES)):

@@ -1,4 +1,4 @@
-"""The check of matches that were played: which are checked together, and that an error costs only its own match."""
+"""The check of matches that were played: which matches are checked together, and that an error affects only the match that has it."""
 
 import asyncio
 import json

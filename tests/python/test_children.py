@@ -55,8 +55,8 @@ def ran(script, job=None):
 def test_a_job_that_runs_and_is_silent_is_lost(monkeypatch):
     monkeypatch.setattr(jobs, "LOST_SECONDS", 1)
     job = ran(f"{NODE}sys.stdin.read()")
-    # The process ends when its input ends.
-    assert (job.why, job.node, job.status, job.process.returncode, job.goes_on) == ("nothing was heard from it for 1 s", "n1", None, 0, False)
+    # The process ends when its input is closed.
+    assert (job.why, job.node, job.status, job.process.returncode, job.goes_on) == ("it sent nothing for 1 s", "n1", None, 0, False)
 
 
 def test_a_job_that_waits_in_a_queue_may_be_silent(monkeypatch):
@@ -86,7 +86,7 @@ def test_a_line_without_an_end_ends_the_job(monkeypatch):
 
 def test_many_short_lines_are_passed_on_together():
     job = ran("import os\nfor _ in range(16): os.write(2, b'\\n' * 65_536)")
-    # A pipe passes on at least a page at a time.
+    # A pipe delivers at least a page at a time.
     assert (len(job.lines), job.calls < 1_000) == (1 << 20, True)
 
 

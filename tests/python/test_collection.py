@@ -1,4 +1,4 @@
-"""Sorting files of records by game, checking the records, and writing them as tables and pages."""
+"""`ggp-records`: finds the game of each record, checks the records, and writes them as tables and pages."""
 
 import contextlib
 import csv
@@ -22,7 +22,7 @@ from ggp_tools.referee import BadRules
 from support import GAMES, TOP, InFolder, program
 
 RECORDS = TOP / "examples/records"
-# The verdict of `verify` on each record of these names, for the game with a heap of 3.
+# The names of example records, by their verdict in the game with a heap of 3.
 LAWFUL = ("countdown-3-first_version", "countdown-3-second_version")
 FAULTY = "countdown-3-another_state"
 
@@ -147,11 +147,11 @@ class Piles(InFolder):
                 self.assertEqual([(judged.line.number, judged.is_lawful) for judged in found], [(at + 1, at % 2 == 0) for at in range(40)])
 
     def test_an_output_is_made_in_its_own_directory(self):
-        # A file cannot be renamed to another file system, which a directory for temporary files may be.
+        # A file cannot be renamed to another file system, and the directory for temporary files may be on one.
         with made_whole(self.folder / "output") as made:
             self.assertEqual(made.parent.parent, self.folder)
             made.write_bytes(b"made")
-        # Another process may have written it since.
+        # In the meantime, another process may have written the file.
         with self.assertRaises(FileExistsError), made_whole(self.folder / "output") as made:
             made.write_bytes(b"made again")
         self.assertEqual([(path.name, path.read_bytes()) for path in self.folder.iterdir()], [("output", b"made")])

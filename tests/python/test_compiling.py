@@ -1,5 +1,5 @@
-"""The interpreter of published descriptions, compared with the one of `tests/oracle`, which shares no code with it. The descriptions are random, with
-relations that depend on the state, on moves and on themselves, and with nested negations and `or`s."""
+"""Compares the interpreter of published descriptions with the one of `tests/oracle`, which shares no code with it. The descriptions are
+random. They have relations that depend on the state, on moves and on themselves, and nested negations and `or`s."""
 
 import random
 from unittest import mock
@@ -15,7 +15,8 @@ STATES = 5
 
 
 def compare(seed: int) -> None:
-    """Compares the results of both for some states, which come alternately from a random turn and from random terms of the states so far."""
+    """Compares the results of both interpreters for some states. Each state comes either from a random turn or from random terms of the
+    states so far, in alternation."""
     text, dice = described(seed), random.Random(seed)
     game, plain = Game(text), interpreter.Game(text)
     assert (game.roles, game.initial) == (plain.roles, plain.initial())

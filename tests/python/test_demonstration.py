@@ -1,6 +1,6 @@
-"""A Swiss competition of eight players over three games, from its plan to its archive; a player and a round are added later. A browser shows it
-meanwhile, `play` is killed twice, a match is played again, and the archive is published. Two of its players are bad, and one of these sends text that
-a page must not trust."""
+"""A Swiss competition of eight players over three games, from its plan to its archive; a player and a round are added later. Meanwhile a
+browser shows it. `play` is killed twice, a match is played again, and the archive is published. Two of its players are bad, and one of
+these sends text that a page must not trust."""
 
 import json
 import re
@@ -114,7 +114,8 @@ class Demonstration(InFolder):
         return page
 
     def assert_harmless(self, page: Page) -> None:
-        """Checks that texts of players did nothing to a page: none of their scripts ran or had to be blocked, and no element comes from them."""
+        """Checks that texts of players did no harm to a page: none of their scripts ran or had to be blocked, and no element of the page
+        comes from them."""
         title = page.value("document.title")
         self.assertIn("cup", title)
         self.assertLessEqual(page.value("document.scripts.length"), 1)
@@ -148,7 +149,8 @@ class Demonstration(InFolder):
         self.assertTrue(page.value("window.isFirst"))
 
     def go_by_keyboard(self, page: Page, hold: Hold) -> None:
-        """Moves the focus to the match, link by link. The focus must stay when the board changes, and the Enter key must open the match's page."""
+        """Moves the focus to the match, link by link. The focus must stay when the board changes, and Enter must open the page of the
+        match."""
         found = []
         while not found or found[-1][1] != f"matches/{FIRST}.html":
             page.press("Tab")
@@ -224,7 +226,7 @@ class Demonstration(InFolder):
         self.assertEqual(again, [f"cup-019 tictactoe ann bob replaces {FIRST}"])
 
     def grow(self, page: Page) -> None:
-        """Adds a player and a round, and plays to the end, as the page shows."""
+        """Adds a player and a round, plays to the end, and checks that the page shows this."""
         page.value("window.isFirst = true")
         self.write((*NAMES, LATE), 2)
         self.assertIn("8 players", self.ran("plan")[-1])

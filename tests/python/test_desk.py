@@ -32,14 +32,14 @@ def play_countdown(desk: Desk, match_id: str) -> list[object]:
 
 
 class Interrupted(str):
-    """A call that is interrupted, as by Ctrl-C."""
+    """A call that is interrupted, for example by Ctrl-C."""
 
     def encode(self, *_: str) -> bytes:
         raise KeyboardInterrupt
 
 
 def assert_an_interrupt_ends(desk: Desk) -> None:
-    """Interrupts a call. The next one must not get its reply."""
+    """Interrupts a call. The next call must not get the reply to the interrupted one."""
     with pytest.raises(KeyboardInterrupt):
         desk.reply(Interrupted("query m1"))
     with pytest.raises(DeskEnded, match="`query m2`"):

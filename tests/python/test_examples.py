@@ -1,4 +1,4 @@
-"""The example scripts, with wrong arguments and outputs. Each reports an error in one line, without a traceback."""
+"""The example scripts with wrong arguments and with outputs that fail. Each script reports an error in one line, without a traceback."""
 
 import json
 import os
@@ -26,7 +26,7 @@ def run(*words, **more):
 
 
 def play_a_match(*words):
-    """Runs `play-a-match`, which does not wait for players. Returns the exit status, the output and the errors."""
+    """Runs `play-a-match` without waiting for players. Returns the exit status, the output and the errors."""
     environment = {**os.environ, "PATIENCE": "0"}
     done = subprocess.run([PLAY_A_MATCH, *words], stdin=subprocess.DEVNULL, capture_output=True, text=True, env=environment)
     return done.returncode, done.stdout, done.stderr

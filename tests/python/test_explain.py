@@ -24,7 +24,8 @@ EXPLAIN = TOP / "python/ggp-explain-record"
 RECORD = TOP / "examples/records/countdown-3-second_version.record"
 REPORT = "One of the two is wrong: please report this, with the record and the rules."
 ERRORS = 'for each turn of moves a list with one text for each role: "", "TO", "CE", "RT", "IL ?", or "IL " and an expression in canonical text and lower case, of at most 8,192 bytes'
-# Changes to a lawful record of Countdown from 3, each with the explanation of the error that it causes. A place is a path of keys and indices.
+# Changes to a lawful record of Countdown from 3. Each comes with the explanation of the error that it causes. A place in the record is
+# given by a path of keys and indices.
 FAULTS = [
     ({("moves", 0, 0): "(take 3)"}, "illegal 0 0", "Turn 1, role red: the move is not legal.", "expected one of 2: (take 1), (take 2)", "found: (take 3)"),
     ({("moves", 0, 1): "(Take\n1)"}, "illegal 0 1", "Turn 1, role blue: the move is not legal.", "expected: noop", "found: (Take\\u{a}1)"),
@@ -40,7 +41,7 @@ FAULTS = [
     ({("phase",): "stopping"}, "end", "At the end the state is terminal, and 2 of 2 roles have an end mark.", "expected: phase finished, cause null", "found: phase stopping, cause null"),
     ({("cause",): "nolegal 1"}, "end", "At the end the state is terminal, and 2 of 2 roles have an end mark.", "expected: phase finished, cause null", "found: phase finished, cause nolegal 1 (the role blue)"),
     ({("endMarks", 1): None}, "end", "At the end the state is terminal, and 1 of 2 roles has an end mark.", "expected: phase stopping, cause null", "found: phase finished, cause null"),
-    ({("startMarks", 1): None}, "end", "At the end a START mark is missing after 2 turns, and 2 of 2 roles have an end mark.", "expected: other marks or turns: no phase has these", "found: phase finished, cause null"),
+    ({("startMarks", 1): None}, "end", "At the end a START mark is missing after 2 turns, and 2 of 2 roles have an end mark.", "expected: other marks or turns: no phase allows these", "found: phase finished, cause null"),
     ({("strikes",): 256}, "shape strikes", "expected in strikes: a whole number from 0 to 255, because the record has version 2", "found: 256"),
     ({("playClock",): "x" * 99}, "shape playClock", "expected in playClock: a whole number of seconds from 1 to 86,400", f'found: "{"x" * 79}..'),
     ({("endMarks",): "gone"}, "shape endMarks", 'expected in endMarks: for each role a mark: null, "", "TO" or "CE"', "the roles are: red, blue", "found: no such key"),
@@ -63,7 +64,7 @@ def changed(record, places):
 
 
 def said_of(word: str, places: dict, rules: Game | None = None) -> list[str]:
-    """Returns the explanation of the fault of a record with these changes."""
+    """Returns the explanation of the error in a record with these changes."""
     return list(explanation(word, rules or Game(countdown(3)), json.dumps(changed(json.loads(RECORD.read_text()), places)).encode()))
 
 
@@ -161,11 +162,11 @@ class Faults(unittest.TestCase):
         none = "The text is not JSON: a value is nested more than 127 deep, a number is invalid or outside the range of binary64, or a surrogate pair is incomplete."
         more = "More text follows the first record. Pass one record, without its call log, or use --lines if each line is a record."
         for text, *lines in (
-            (b'{\n"\xff"', "The text is not JSON: line 2, byte 2 of it: it is not UTF-8."), (b'\xff', "The text is not JSON: line 1, byte 1 of it: it is not UTF-8."),
-            (b"\n\xff", "The text is not JSON: line 2, byte 1 of it: it is not UTF-8."), (b"{} x", "The text is not JSON: line 1, column 4: more text follows the value."),
+            (b'{\n"\xff"', "The text is not JSON: line 2, byte 2: it is not UTF-8."), (b'\xff', "The text is not JSON: line 1, byte 1: it is not UTF-8."),
+            (b"\n\xff", "The text is not JSON: line 2, byte 1: it is not UTF-8."), (b"{} x", "The text is not JSON: line 1, column 4: more text follows the value."),
             (b"{}\n{}", "The text is not JSON: line 2, column 1: more text follows the value.", more), (b"{}\n0\topen m 0\topened\n", "The text is not JSON: line 2, column 1: more text follows the value.", more),
             (b"[" * 99_999, none), (b"[]", none), (b'x{"cause":1', "The text is not JSON: line 1, column 1: a value is missing."),
-            (b'{"cause":{"cause":1}', "The text is not JSON: line 1, column 21: `,` is missing.", "Another record begins at byte 10: the one before it was cut off, for example because a record was appended to an unfinished line."),
+            (b'{"cause":{"cause":1}', "The text is not JSON: line 1, column 21: `,` is missing.", "Another record begins at byte 10: the record before it was cut off, for example because a record was appended to an unfinished line."),
             (b"1} ", "The text is not JSON: line 1, column 2: more text follows the value."),
         ):
             self.assertEqual(list(explanation("json", Game(countdown(3)), text)), lines, text)
@@ -208,8 +209,8 @@ class Verdicts(WithStandIn):
             judged(self.referee.path, [], b"{}")
 
         path = self.referee.path
-        self.assertEqual(self.no_verdict(ask, verdict_rows(None), b"", 1), (f"{path} gives no verdict, and its status is 1", 3))
-        self.assertEqual(self.no_verdict(ask, verdict_rows(None)[:-3], b"", 0), (f"{path} gives no verdict, and its status is 0", 3))
+        self.assertEqual(self.no_verdict(ask, verdict_rows(None), b"", 1), (f"{path} gave no verdict: it ended with status 1", 3))
+        self.assertEqual(self.no_verdict(ask, verdict_rows(None)[:-3], b"", 0), (f"{path} gave no verdict: it ended with status 0", 3))
         self.assertEqual(self.no_verdict(ask, verdict_rows("state 1"), b"ggp_manager: not lawful: state 1\n", 2), ("ggp_manager: not lawful: state 1", 3))
         self.assertEqual(self.no_verdict(ask, b"", b"a\nggp_manager: wrong use\n", 2), ("a\nggp_manager: wrong use", 3))
 
@@ -223,7 +224,7 @@ class Verdicts(WithStandIn):
         self.answers(verdict_rows(None, "goals"), b"ggp_manager: records not lawful 1\n", 1)
         self.assertEqual(judged(path, ["--lines", "--countdown=3"], b"{}\n7\tx\n", 2), [None, "goals"])
         self.assertEqual(self.asked(), (["verify", "--json", "--lines", "--countdown=3"], b"{}\n7\tx\n"))
-        wrong = "gives no verdict, and its status is"
+        wrong = "gave no verdict: it ended with status"
         lawful, wrongly = verdict_rows(None), verdict_rows("goals")
         for answer, status in (((lawful * 2, b"", 0), 0), ((lawful, b"", 1), 1), ((wrongly, b"", 0), 0), ((wrongly, b"", 2), 2), ((lawful[:-3], b"", 0), 0), ((b"", b"", 0), 0)):
             said = self.no_verdict(lambda: judged(path, ["--lines"], b"{}\n"), *answer)
@@ -343,7 +344,7 @@ class Whole(unittest.TestCase):
             with self.subTest(at):
                 self.assertTrue(said[1:] == [begin] or whole[at:].startswith("[") or '"' not in whole[at:] or "more follows" in said[0], said)
         again = json_lines(f"{whole[:50]}{whole}".encode())
-        self.assertIn("Another record begins at byte 51: the one before it was cut off", again[1])
+        self.assertIn("Another record begins at byte 51: the record before it was cut off", again[1])
         for text in (b'{"a":\n x}', b"", b"no record", b'{"a" 1, "b": {'):
             self.assertEqual(json_lines(text)[1:], [], text)
 

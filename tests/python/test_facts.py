@@ -25,7 +25,7 @@ from test_collection import WithPile
 RECORD_BYTES = (TOP / "examples/records/countdown-3-second_version.record").read_bytes().rstrip()
 RECORD = json.loads(RECORD_BYTES)
 FAULTY = (TOP / "examples/records/countdown-3-another_state.record").read_bytes()
-# In this log, the referee had no connection to blue for START, nor for the first PLAY.
+# In this log, the referee had no connection to blue for START and for the first PLAY.
 BROKEN = {**RECORD, "startMarks": ["", "CE"], "errors": [["", "CE"], ["", ""]]}
 M1 = Match("m1", "countdown", 10, 10, ("ann", "bob"))
 # 2026-11-28T06:00:00Z
@@ -216,7 +216,7 @@ class Lines(unittest.TestCase):
         )
         for old, new in others:
             self.assertIn(old, LOG)
-            self.assert_unknown("its log is that of another match: role ", BROKEN, LOG.replace(old, new))
+            self.assert_unknown("its log belongs to another match: role ", BROKEN, LOG.replace(old, new))
         answered = LOG.replace('"answer":null,"error":"CE","reason":"no host"', '"answer":"noop","error":null,"reason":null')
         self.assert_unknown("has an answer where the record has CE: role 1, message 2", BROKEN, answered)
 

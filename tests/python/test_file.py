@@ -4,7 +4,7 @@ import random
 import unittest
 
 from ggp_tools.competition.command import MOST_AT_ONCE
-from ggp_tools.competition.competition_file import Command, Launcher, MOST_GAMES, MOST_OF_COMPETITION, MOST_PLAYERS, MOST_ROUNDS, MOST_SECONDS, MOST_STRIKES, Mistaken, mistake_lines, read_competition
+from ggp_tools.competition.competition_file import Command, Launcher, MOST_GAMES, MOST_OF_COMPETITION, MOST_PLAYERS, MOST_ROUNDS, MOST_SECONDS, MOST_STRIKES, Mistake, Mistaken, mistake_lines, read_competition
 from ggp_tools.competition.history import MOST_EARLIER, MOST_OF_EARLIER
 from ggp_tools.competition.schedule import MOST_MATCHES
 from ggp_tools.competition.toml_lines import MOST_SIGNS
@@ -32,14 +32,14 @@ MISTAKES = [
     ("strikes = 3", 'order = "wins"', [(3, "order", "expected one of goals, points, found 'wins'")]),
     ("strikes = 3", 'absent = "wait"', [(3, "absent", "expected one of leave, play, found 'wait'")]),
     ("strikes = 3", "pause = true", [(3, "pause", "only the kinds swiss and knockout have this key")]),
-    ("strikes = 3", "anchor = {ann = 1.5, eve = 1_500}", [(3, "anchor", "expected for ann a whole number from -10,000 to 10,000, found 1.5"), (3, "anchor", "no player 'eve'")]),
+    ("strikes = 3", "anchor = {ann = 1.5, bob = true, eve = 1_500}", [(3, "anchor", "expected for ann a whole number from -10,000 to 10,000, found 1.5"), (3, "anchor", "for bob"), (3, "anchor", "no player 'eve'")]),
     ("strikes = 3", "seeds = 7", [(3, "seeds", "a text in quotes")]),
     ('"round_robin"\nrounds = 2', '"swiss"\nrounds = 2\nfinal = 4', [(8, "form.final", "the competition has 3 players")]),
+    ('"round_robin"\nrounds = 2', '"swiss"\nrounds = 2\nfinal = 1', [(8, "form.final", "from 2 to 1,000, found 1")]),
     ("rounds = 2", "final = 2", [(7, "form.final", "the kind round_robin has no such key")]),
     ("strikes = 3", "absent_rounds = 1", [(3, "absent_rounds", "only the kinds swiss and knockout have this key")]),
     ("strikes = 3", 'withdrawn_results = "drop"', [(3, "withdrawn_results", "one of keep, void")]),
-    ("concurrent = 3", 'withdrawn = " a reason"', [(23, "players.withdrawn", "expected true or a reason")]),
-    ("strikes = 3", "faults = {replaced = 0}", [(3, "faults.replaced", "from 1 to 10,000, found 0")]),
+    *(("concurrent = 3", f'withdrawn = "{why}"', [(23, "players.withdrawn", "expected true or a reason")]) for why in (" a reason", "x" * 201)),
     ("strikes = 3", "faults = {replace = 1}", [(3, "faults.replace", "no such key; expected one of replaced"), (3, "faults.replaced", "missing")]),
     ('["srun", "-N1"]', "[]", [(4, "launcher.command", "expected at least one text")]),
     ('["srun", "-N1"]', '["srun", 1]', [(4, "launcher.command", "a text in quotes")]),
@@ -59,6 +59,7 @@ MISTAKES = [
     ('name = "go"', 'name = "-go"', [(12, "games.name", "expected a name")]),
     ('name = "go"', 'name = "g/o"', [(12, "games.name", "expected a name")]),
     ('file = "go.kif"', "", [(11, "games.file", "missing")]),
+    *(('file = "go.kif"', f'file = "go{sign}"', [(13, "games.file", "expected the path of a file")]) for sign in ("\\u0000", "\\u001f", "\\u007f", "\\u009f")),
     ('file = "go.kif"', 'file = "go.kif"\nplayer_rules = "both"', [(14, "games.player_rules", "one of ground, variables")]),
     ('file = "go.kif"', 'file = "go.kif"\naborts = 1', [(14, "games.aborts", "expected true or false, found 1")]),
     ('file = "go.kif"', 'file = "go.kif"\ntold = "variables"', [(14, "games.told", "this key is now player_rules")]),
@@ -67,7 +68,7 @@ MISTAKES = [
     ('file = "go.kif"', 'file = "go.kif"\nplayer_rules = true', [(14, "games.player_rules", "a text in quotes")]),
     ('file = "go.kif"', 'file = "go.kif"\n\ntell = "ground"', [(15, "games.tell", "no such key; expected one of name, file, described, instantiate, start, play, player_rules, aborts, large")]),
     ('name = "bob"', 'name = "ann"', [(18, "players.name", "line 15 already has 'ann'")]),
-    ('name = "bob"', 'name = "b b"', [(18, "players.name", "expected a name")]),
+    *(('name = "bob"', f'name = "{name}"', [(18, "players.name", "expected a name of 1 to 64 letters")]) for name in ("b b", "b" * 65)),
     ('"[::1]:9148"', '"10.0.0.1:9147"', [(19, "players.address", "line 16 already has")]),
     ('"[::1]:9148"', '"10.0.0.1"', [(19, "players.address", "expected HOST:PORT")]),
     ('"[::1]:9148"', '"::1:9148"', [(19, "players.address", "expected HOST:PORT")]),
@@ -84,10 +85,11 @@ MISTAKES = [
     ('address = "[::1]:9148"', 'address = "[::1]:9148"\ncommand = ["x", "{port}"]', [(19, "players.address", "gets its address when it is started"), (17, "players.command", "the matches of a launcher can't reach")]),
     *(('address = "[::1]:9148"', new, [(line, f"players.{key}", words), (17, "players.command", "launcher")]) for new, line, key, words in (
         ('command = []', 19, "command", "expected at least one text"), ('command = [""]', 19, "command", "expected at least one text"),
-        ('command = ["x"]', 19, "command", "expected {port} in the command or in the environment"), ('command = ["x", 5, "{port}"]', 19, "command", "a text in quotes"),
+        ('command = ["\\u0000", "{port}"]', 19, "command", "expected at least one text"), ('command = ["x"]', 19, "command", "expected {port} in the command or in the environment"), ('command = ["x", 5, "{port}"]', 19, "command", "a text in quotes"),
         *((f'command = ["x", "{{port}}"]\n{more}', 20, more.split()[0], words) for more, words in (
-            ('memory = "4X"', "found '4X'"), ('memory = 5', "a text in quotes"), ('restart = "always"', "one of when_dead, each_match, never"),
+            ('memory = "4X"', "found '4X'"), ('memory = "1000000K"', "found '1000000K'"), ('memory = 5', "a text in quotes"), ('restart = "always"', "one of when_dead, each_match, never"),
             ("environment = 5", "a table of texts"), ('environment = {"A=" = "x"}', "expected a variable"), ("environment = {A = 5}", "expected a variable"),
+            *((f"environment = {{{entry}}}", "expected a variable") for entry in ('"" = "x"', '"A\\u0000" = "x"', 'A = "\\u0000"')),
             ('directory = ""', "expected the path of a file"),
         )),
     )),
@@ -100,6 +102,9 @@ NUMBERS = [
     *(("strikes = 3", f"{key} = {{}}", 3, key, *limits) for key, *limits in (
         ("strikes", 0, 255), ("play", 1, 86_400), ("tries", 1, 1_000), ("wait", 0, 86_400), ("info", 1, 10),
     )),
+    ("strikes = 3", "anchor = {{ann = {}}}", 3, "anchor", -10_000, 10_000),
+    (GOOD[GOOD.index("strikes") : GOOD.index("\nrounds")], 'absent_rounds = {}\n[form]\nkind = "swiss"', 3, "absent_rounds", 0, 1_000),
+    ("strikes = 3", "faults = {{replaced = {}}}", 3, "faults.replaced", 1, 10_000),
     ("slots = 9", "slots = {}", 4, "launcher.slots", 1, 1_024),
     ("rounds = 2", "rounds = {}", 7, "form.rounds", 1, 1_000),
     *(('file = "go.kif"', f'file = "go.kif"\n{key} = {{}}', 14, f"games.{key}", 1, most) for key, most in (("start", 86_400), ("play", 86_400), ("instantiate", 1_000_000))),
@@ -129,6 +134,7 @@ class CompetitionFile(unittest.TestCase):
     def assert_told(self, text, wanted):
         found = mistakes_of(text.encode())
         self.assertEqual(sorted(mistake[:2] for mistake in found), sorted(mistake[:2] for mistake in wanted), found)
+        self.assertEqual(found, sorted(found, key=lambda mistake: mistake[0]))
         for *place, words in wanted:
             self.assertTrue(any(list(mistake[:2]) == place and words in mistake[2] for mistake in found), (words, found))
 
@@ -155,7 +161,7 @@ class CompetitionFile(unittest.TestCase):
         for kind in ('"swiss"\nrounds = 3', '"knockout"'):
             self.assertEqual(mistakes_of(toml(PLAYERS, GAMES, f"kind = {kind}").encode()), [])
             found = mistakes_of(toml(PLAYERS, GAMES, f"kind = {kind}", 'order = "goals"').encode())
-            self.assertEqual(found, [(2, "order", f"the kind {kind.split(chr(34))[1]} has its own order")])
+            self.assertEqual(found, [(2, "order", f"the kind {kind.split(chr(34))[1]} determines the order, so this key is not allowed")])
         found = mistakes_of(toml(PLAYERS, GAMES, 'kind = "knockout"', 'withdrawn_results = "void"').encode())
         self.assertEqual(found, [(2, "withdrawn_results", "a knockout can't have \"void\": the matches that a withdrawn player has won must count, since other players have lost them")])
 
@@ -183,7 +189,7 @@ class CompetitionFile(unittest.TestCase):
     def test_the_document_has_the_limits(self):
         text = (TOP / "docs/COMPETITION.md").read_text()
         limits = [
-            f"at most {MOST_OF_COMPETITION:,} bytes", f"at most {MOST_SIGNS:,} of the signs", f"at most {MOST_PLAYERS:,} players, {MOST_GAMES:,} games", f"at most {MOST_MATCHES:,} matches", f"at most {MOST_EARLIER:,} files with {MOST_OF_EARLIER:,} bytes in total", f"`rounds`, 1 to {MOST_ROUNDS:,} (1)", f"0 to {MOST_STRIKES}",
+            f"at most {MOST_OF_COMPETITION:,} bytes", f"at most {MOST_SIGNS:,} of the characters", f"at most {MOST_PLAYERS:,} players, {MOST_GAMES:,} games", f"at most {MOST_MATCHES:,} matches", f"at most {MOST_EARLIER:,} files with {MOST_OF_EARLIER:,} bytes in total", f"`rounds`, 1 to {MOST_ROUNDS:,} (1)", f"0 to {MOST_STRIKES}",
             "`tries` | 1 to 1,000 (5)", f"0 to {MOST_SECONDS:,} (10)", f"N matches at the same time, 1 to {MOST_AT_ONCE:,}, by default 4", "`concurrent = N`, 1 to 1,024",
             "`name` | 1 to 40 letters", "`name`, 1 to 64 letters",
         ]
@@ -215,8 +221,10 @@ class CompetitionFile(unittest.TestCase):
         texts = [f'name = "{long}"', f'name = "cup"\n{long} = 1', "".join(f"{at}x = 1\n" for at in range(1_000)), f"anchor = {{{long} = 1}}", f'[form]\nkind = "schedule"\nlines = ["{long} {long} {long}"]']
         texts += [f'[[games]]\nname = "{long}"\n' * 2, f'start = {"9" * 4_000}', f'[[players]]\nname = "a"\ncommand = ["{{port}}"]\nenvironment = {{"{long}=" = 1}}']
         for text in texts:
-            lines = mistake_lines("cup.toml", raised(Mistaken, read_competition, text.encode()).mistakes).splitlines()
-            self.assertLess((len(lines), max(map(len, lines))), (102, 1_000))
+            self.assertLess(max(map(len, mistake_lines("cup.toml", raised(Mistaken, read_competition, text.encode()).mistakes).splitlines())), 1_000)
+        for count, last in ((100, "f:100: key: why"), (101, "f: 1 more mistake"), (102, "f: 2 more mistakes")):
+            lines = mistake_lines("f", [Mistake(line, "key", "why") for line in range(1, count + 1)]).splitlines()
+            self.assertEqual((len(lines), lines[99], lines[-1]), (min(count, 101), "f:100: key: why", last))
 
     def test_whatever_comes_is_read_or_told(self):
         chance = random.Random(1)

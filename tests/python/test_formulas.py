@@ -10,7 +10,7 @@ from hypothesis import assume, given, strategies as st
 
 STATE = [("true", term) for term in ("a", "b", ("c", "d"))]
 MOVES = {role: [("does", role, f"{role}{number}") for number in range(count)] for role, count in (("r", 4), ("s", 2), ("t", 1))}
-# Each state with each joint move.
+# All combinations of a state and a joint move.
 WORLDS = [
     frozenset(itertools.compress(STATE, chosen)) | frozenset(joint)
     for chosen in itertools.product((0, 1), repeat=len(STATE)) for joint in itertools.product(*MOVES.values())
@@ -142,7 +142,7 @@ class OfFormulas(unittest.TestCase):
         most = self.formulas.any([first, second, third])
         self.assertEqual(self.formulas.expression(self.formulas.shortest(most)), ("not", MOVES["r"][3]))
         self.assertEqual(self.formulas.expression(self.formulas.shortest(self.formulas.no(most))), MOVES["r"][3])
-        # Two of four alternatives are shorter unchanged.
+        # If two of four alternatives are given, the unchanged formula is shorter.
         half = self.formulas.any([first, second])
         self.assertEqual(self.formulas.expression(self.formulas.shortest(half)), ("or", *MOVES["r"][:2]))
         beside = self.formulas.any([most, self.atoms[0]])

@@ -28,21 +28,21 @@ SOUND = """(role ann) (role bob)
 (<= terminal over)
 (<= (goal ann 100) over) (<= (goal bob 0) over)
 """
-# Replacements in the description, or additions at its end, and the suspicious parts that follow.
+# Changes of the description (replacements, or additions at its end), each with the suspicious sentences that `game` then reports.
 CHANGES = [
     ("(init", "(initial", [
-        "line 2, column 1: `initial` is not a GDL keyword, and the game does not use it; is `init` meant?: (initial (step 1))",
+        "line 2, column 1: `initial` is not a GDL keyword, and the game does not use it; did you mean `init`?: (initial (step 1))",
         "line 3, column 20: no `init` and no `next` gives the term (step 1): (true (step 1)) (and 2 more like this)",
     ]),
     ("(<= terminal", "(=> terminal", [
-        "line 9, column 1: `=>` is not a GDL keyword, and the game does not use it; is `<=` meant?: (=> terminal over)",
+        "line 9, column 1: `=>` is not a GDL keyword, and the game does not use it; did you mean `<=`?: (=> terminal over)",
         "no sentence gives `terminal`, so no match can finish",
     ]),
     ("(true (step 3)", "(treu (step 3)", [
         "line 7, column 5: no condition uses the term (step 3): (next (step 3))",
-        "line 8, column 10: `(treu _)` has no rule and no fact; is `true` meant?: (treu (step 3))",
+        "line 8, column 10: `(treu _)` has no rule and no fact; did you mean `true`?: (treu (step 3))",
     ]),
-    ("terminal over", "terminal ovre", ["line 9, column 14: `ovre` has no rule and no fact; is `over` meant?: ovre"]),
+    ("terminal over", "terminal ovre", ["line 9, column 14: `ovre` has no rule and no fact; did you mean `over`?: ovre"]),
     ("terminal over", "terminal (over)", ["line 9, column 14: `(over)` has no rule and no fact, only `over`: (over)"]),
     ("legal bob", "legal bbo", [
         "line 1, column 12: no sentence gives the role bob a `legal`: (role bob)",
@@ -78,7 +78,7 @@ OPEN = """(player ann) (player bob) (<= (role ?r) (player ?r))
 (<= (goal ?r 100) (role ?r)) (<= (base (cell ?n)) (number ?n)) (<= (input ?r (go ?n)) (role ?r) (number ?n))
 (<= (number ?n) (succ ?n ?m)) (<= (number ?m) (succ ?n ?m))
 """
-# Sentences in the games of this repository that nothing in them uses.
+# Sentences of this repository's games that nothing else in the game uses.
 KNOWN = {"checkers": "`(kind _)`", "farmers": "`(ten _)`", "foxandhounds": "`(line _)`"}
 ENDLESS = "(role ann) (init (step 1)) (legal ann go) (<= (next (step 1)) (true (step 1))) (<= terminal (true (step 2))) (goal ann 1)"
 
@@ -128,7 +128,7 @@ class Suspicious(unittest.TestCase):
             self.assertEqual(lines_of(text), [])
 
     def test_of_what_has_not_its_form_only_misspelt_heads_are_told(self):
-        said = "line 1, column 1: `=>` is not a GDL keyword, and the game does not use it; is `<=` meant?: (=> (legal ?r x) y)"
+        said = "line 1, column 1: `=>` is not a GDL keyword, and the game does not use it; did you mean `<=`?: (=> (legal ?r x) y)"
         self.assertEqual(lines_of(b"(=> (legal ?r x) y) (<= (next) p) (<=) (<= q) (line 1)"), [said])
         self.assertEqual(lines_of(b"(" * 70 + b"a" + b")" * 70), [])
 
@@ -205,7 +205,7 @@ class Game(InFolder):
         self.assertEqual((status, lines), (1, [
             "game.kif is not accepted: line 3, column 1: true or does as a head, init or next as a condition, or a role with conditions: (<= (next x) (init x))",
             "line 3, column 1: (init x) can't be in a body: (<= (next x) (init x)); use `true` for what is true in the state",
-            "suspicious: line 2, column 1: `=>` is not a GDL keyword, and the game does not use it; is `<=` meant?: (=> (legal a x) p)",
+            "suspicious: line 2, column 1: `=>` is not a GDL keyword, and the game does not use it; did you mean `<=`?: (=> (legal a x) p)",
             "the rest was not checked",
         ]))
         for text, words in [("", "line 1, column 1: there is no sentence"), ("(role a", "line 1, column 1: a list that is not closed; add a `)`")]:
@@ -213,7 +213,7 @@ class Game(InFolder):
         self.assertEqual(self.look("(" * 70 + "a" + ")" * 70)[1][-1], "the rest was not checked")
         said = ["game.kif is not accepted: it has 16,777,217 bytes; at most 1,048,576 are accepted, or 16,777,216 with --large", "the rest was not checked"]
         self.assertEqual(self.look(" x" * (1 << 23) + "x"), (1, said))
-        # Above the usual limit of bytes, the limits for large games apply.
+        # A description above the usual limit of bytes gets the limits for large games.
         status, lines = self.look(SOUND + ";" * (1 << 20), "--matches", "0")
         self.assertEqual((status, lines[0].startswith("game.kif is accepted: ")), (0, True), lines)
         status, lines = self.look(SOUND + "(goal ann 200)")
@@ -250,7 +250,7 @@ class Game(InFolder):
         self.assertEqual(status, 1)
         first, second = "sentence 10, line 10: (<= (goal ann 100) over)", "sentence 11, line 10: (<= (goal ann 0) over)"
         self.assertEqual(lines[3:5], [
-            "aborted with `nogoal ann`: 1, seed 1; after turn 2 of seed 1 the state is (step 3)", f"ann has 2 goals there: 0, by {second}; 100, by {first}",
+            "aborted with `nogoal ann`: 1, seed 1; after turn 2 of seed 1 the state is (step 3)", f"ann has 2 goal values in this state: 0, by {second}; 100, by {first}",
         ])
         self.assertEqual(lines[6], "ann: goals none; most legal moves at once: 1")
 
@@ -263,21 +263,21 @@ class Game(InFolder):
         goals = "(<= (goal ann ?x) (true (won ?x)))\n(goal bob 5) (goal (o 1) 5)"
         rule, fact = "sentence 0, line 1: (<= (goal ann ?x) (true (won ?x)))", "sentence 1, line 2: (goal bob 5)"
         for role, state, words in (
-            ("ann", [], f"no sentence gives ann a goal there; the sentences about goals are {rule} and {fact} and sentence 2, line 2: (goal (o 1) 5)"),
-            ("ann", ["(won 150)"], f"ann has the goal 150 (not a number from 0 to 100), by {rule}"), ("bob", ["(won 1)"], f"bob has the goal 5, by {fact}"),
-            ("ann", ["(won 9)", "(won (a))", "(won 7)", "(won 8)"], f"ann has 4 goals there: (a) (not a number from 0 to 100), by {rule}; 7, by {rule}; 8, by {rule}"),
-            ("(o 1)", [], "(o 1) has the goal 5, by sentence 2, line 2: (goal (o 1) 5)"),
+            ("ann", [], f"no sentence gives ann a goal value in this state; the sentences about goals are {rule} and {fact} and sentence 2, line 2: (goal (o 1) 5)"),
+            ("ann", ["(won 150)"], f"ann has the goal value 150 (not a number from 0 to 100), by {rule}"), ("bob", ["(won 1)"], f"bob has the goal value 5, by {fact}"),
+            ("ann", ["(won 9)", "(won (a))", "(won 7)", "(won 8)"], f"ann has 4 goal values in this state: (a) (not a number from 0 to 100), by {rule}; 7, by {rule}; 8, by {rule}"),
+            ("(o 1)", [], "(o 1) has the goal value 5, by sentence 2, line 2: (goal (o 1) 5)"),
         ):
             self.assertEqual(goals_said(goals, role, state), words)
         self.assertEqual(goals_said("(role", "ann", []), "")
-        self.assertEqual(goals_said("(role ann)", "ann", []), "no sentence gives ann a goal there; no sentence is about goals")
+        self.assertEqual(goals_said("(role ann)", "ann", []), "no sentence gives ann a goal value in this state; no sentence is about goals")
 
     def test_a_game_that_does_not_end(self):
         status, lines = self.look(ENDLESS, "--matches", "1")
         self.assertEqual((status, lines[3]), (1, "aborted with `toolong`: 1, seed 1; after turn 10,000 of seed 1 the state is (step 1)"))
         status, lines = self.look(ENDLESS, "--matches", "10000", "--seconds", "1")
         self.assertEqual(status, 1)
-        self.assertRegex(lines[2], r"^out of time: in 1 s there were \d+ of 10,000 matches and [\d,]+ turns of the next one$")
+        self.assertRegex(lines[2], r"^out of time: \d+ of 10,000 matches and [\d,]+ turns of the next one were played in 1 s$")
 
     def test_a_move_that_no_player_can_make(self):
         status, lines = self.look(SOUND.replace("bob wait", f"bob (wait {'x' * 5_000})"), "--matches", "2")
@@ -287,7 +287,8 @@ class Game(InFolder):
 
     @pytest.mark.gate
     def test_rules_that_are_too_deep_for_the_interpreter(self):
-        # Each level needs a nested call. Up to 20,000 are allowed, which is more than the program's usual limits need.
+        # Each level needs a nested call. Up to 20,000 nested calls are allowed, which is more than rules within the program's usual limits
+        # need.
         chain = "".join(f"(<= p{number} (or (or (or p{number + 1}))))\n" for number in range(21_000))
         status, lines = self.look(SOUND + chain + "p21000 (<= terminal (not p0))")
         self.assertEqual((status, lines[-1]), (0, "the interpreter cannot play it: its rules are nested too deeply"))
@@ -328,7 +329,7 @@ class Game(InFolder):
         (self.folder / "gringo").write_text("#!/bin/bash\nkill -9 $$\n")
         status, out, said = run(self.folder, "game", "game.kif", env={**os.environ, "PATH": path})
         self.assertEqual((status, out), (3, ""))
-        self.assertRegex(said, "^ggp_competition: ggp-instantiate gave no verdict for game.kif: .*gringo took .*, or was killed\n$")
+        self.assertRegex(said, "^ggp_competition: ggp-instantiate gave no verdict for game.kif: .*gringo ran out of memory: .*, or it was killed\n$")
         self.assertEqual(run(self.folder, "game", "game.kif", env={**os.environ, "PATH": "/nowhere"}), (
             3, "", "ggp_competition: game.kif can't be grounded: the grounder gringo is not installed\n",
         ))

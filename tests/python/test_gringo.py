@@ -121,8 +121,8 @@ class Runs(InFolder):
 
     def test_one_that_fails(self):
         for text, words in (
-            ("cat > /dev/null; echo 'a  b' >&2; echo c >&2; exit 65", "gringo refuses it: a b c"), ("cat > /dev/null; echo std::bad_alloc >&2; exit 33", "gringo took 2 GiB"),
-            ("kill -9 $$", "gringo took 2 GiB"), (f"cat > /dev/null; echo {'x' * 400} >&2; exit 1", f"gringo refuses it: {'x' * 300}"), ("cat > /dev/null; echo bad_alloc >&2", "gringo took 2 GiB"),
+            ("cat > /dev/null; echo 'a  b' >&2; echo c >&2; exit 65", "gringo refuses it: a b c"), ("cat > /dev/null; echo std::bad_alloc >&2; exit 33", "gringo ran out of memory: its limit is 2 GiB"),
+            ("kill -9 $$", "gringo ran out of memory: its limit is 2 GiB"), (f"cat > /dev/null; echo {'x' * 400} >&2; exit 1", f"gringo refuses it: {'x' * 300}"), ("cat > /dev/null; echo bad_alloc >&2", "gringo ran out of memory: its limit is 2 GiB"),
         ):
             self.assertEqual(str(raised(Refused, self.instances, text)), words)
 

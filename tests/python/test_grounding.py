@@ -66,7 +66,7 @@ class Dependence(unittest.TestCase):
         self.assertEqual(Relations(rules("(<= p q) (<= q p) (<= r (not r)) (<= s p)")).circular, {("p", None), ("q", None), ("r", None)})
 
     def test_the_work_grows_with_the_text_only(self):
-        # If the cost were quadratic, each of these descriptions would take hours or too much memory.
+        # If the cost were quadratic, each of these descriptions would take hours, or too much memory.
         chain = "".join(f"(<= (p{number} ?x) (p{number + 1} ?x))" for number in range(100_000))
         self.assertEqual(len(Relations(rules(chain + "(<= (p100000 ?x) (true ?x))")).unsettled()), 100_003)
         names = [f"?x{number}" for number in range(50_000)]
@@ -143,7 +143,8 @@ class Circles(unittest.TestCase):
         return " ".join([*found, *more])
 
     def both(self, names):
-        """Returns rules for the paths of a first relation that consist of another of its paths and a path of a second relation."""
+        """Returns rules for the paths of a first relation. Each path consists of another path of this relation and a path of a second
+        relation."""
         first, then = names
         return " ".join(f"(<= ({first} {start} {end}) ({first} {start} {middle}) ({then} {middle} {end}))" for start, middle, end in itertools.product("ab", repeat=3))
 
@@ -167,7 +168,7 @@ class Circles(unittest.TestCase):
             self.assertEqual(self.last(other)[0], False, other[-60:])
 
     def test_ways_of_one_step_need_fewer_rounds_where_all_lead_to_all(self):
-        # Each of three sentences can be derived from the other two, and a path uses at most two of them.
+        # Each of three sentences can be derived from the other two. A path uses at most two of them.
         text = " ".join(f"(<= {head} {other} (true {head}))" for head, other in itertools.permutations("abc", 2))
         self.assertEqual(self.last(f"{text} (<= a (true s))"), (False, 1))
         self.assertEqual(self.last(f"{text} (<= d a) (<= a d (true a))"), (False, 2))
@@ -191,7 +192,7 @@ class Circles(unittest.TestCase):
             "(<= round1 a)", "(<= (next a) a)", "(<= a (round 1 b))", "(<= a (true t) (round 1 b))", "(<= b (round 1 c))", "(<= c (true s))",
             "(<= (round 1 b) (round 0 c))", "(<= (round 1 c) (true s))", "(<= (round 0 c) (true s))",
         ])
-        # Only the first rule of each head keeps the place of the original rule; for c, that rule is dropped.
+        # Only the first rule of each head keeps the place of the original rule. For c, this rule is dropped.
         self.assertEqual([rule.sentence for rule in found], [4, 6, 0, 5, 1, 2, 1, 3, 3])
 
     def test_rounds_that_are_too_many_are_refused(self):
@@ -236,7 +237,7 @@ class Splitting(unittest.TestCase):
     FACTS = {("e", start, end) for start, end in zip("abcdeabc", "bcdeabda")}
 
     def heads(self, found):
-        """Returns the heads that rules derive: tries all values of the variables, bottom-up."""
+        """Returns the heads that rules derive. Tries all values of the variables, bottom-up."""
         true = set(self.FACTS)
         while True:
             new = set()

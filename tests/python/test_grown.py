@@ -1,5 +1,5 @@
-"""Archives of a competition that grew, with a match that was played again, and of a competition by rounds. `check` accepts these archives, and
-refuses each corrupted copy, even with matching checksums. test_archive.py has the corruptions that apply to any archive."""
+"""Archives of competitions that grew, with a match that was played again, and of competitions by rounds. `check` accepts these archives. It
+refuses each corrupted copy, even if the checksums match. test_archive.py has the corruptions that apply to any archive."""
 
 import json
 import pathlib
@@ -30,7 +30,7 @@ GROWN = {
     "a match was ordered again twice": (changed("cup/again.tsv", lambda text: text + text.splitlines(keepends=True)[1]), "again.tsv is not what"),
     "a record that does not count is missing": (without("cup/records/cup-001.json"), "cup-001: it has no record"),
     "a record that does not count is another": (changed("cup/records/cup-001.json", lambda text: text.replace(b'"ann"', b'"eve"')), "cup-001: "),
-    "the file before is missing": (without("cup/earlier/3.toml"), "which was ordered again, is not the next match"),
+    "the file before is missing": (without("cup/earlier/3.toml"), "is not the next match of the schedule"),
     "the file before has another player": (changed("cup/earlier/3.toml", lambda text: text.replace(b'"bob"', b'"bab"')), "the player bab is missing"),
     "the file before is another in the order of its players": (
         changed("cup/earlier/3.toml", lambda text: text.replace(b'"ann"', b'"x"').replace(b'"bob"', b'"ann"').replace(b'"x"', b'"bob"')), "schedule.tsv does not agree with",

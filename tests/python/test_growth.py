@@ -1,4 +1,5 @@
-"""A competition that grows: planned matches stay, new ones follow them, and the message about a refused change names the change."""
+"""A competition that grows: planned matches stay as they are, and new ones follow them. If a change is refused, the message names the
+change."""
 
 import contextlib
 import unittest
@@ -36,7 +37,7 @@ def seated(matches):
 
 class Growth(unittest.TestCase):
     def grown(self, *versions, again=()):
-        """Plans the first file, replaces it by each of the others in turn, and returns the schedule."""
+        """Plans the first file, and then replaces it with each of the others in turn. Returns the schedule."""
         history = History((), tuple(again))
         for before, after in zip(versions, versions[1:]):
             refuse_changes(before, after)
@@ -92,9 +93,19 @@ class Growth(unittest.TestCase):
         for again, words in (
             ([Again("cup-005", "cup-009", "x")], "cup-005 replaces cup-009, which is not a match that counts"),
             ([Again("cup-005", "cup-001", "x"), Again("cup-006", "cup-001", "x")], "cup-006 replaces cup-001, which is not a match that counts"),
-            ([Again("cup-007", "cup-001", "x")], "cup-007, which was ordered again, is not the next match"),
+            ([Again("cup-007", "cup-001", "x")], "the rematch cup-007 is not the next match of the schedule"),
         ):
             self.assertEqual(str(raised(Misfit, self.grown, competition(2), again=again)), words)
+
+    def test_a_player_that_has_withdrawn_leaves_matches_out(self):
+        before = competition(3, form='kind = "schedule"\nlines = ["two p0 p1", "two p1 p2", "two p2 p0"]')
+        players = before.players[0], replace(before.players[1], withdrawn="why"), before.players[2]
+        history = History(((3, before),), (Again("cup-004", "cup-001", "x"),))
+        # A match that is replaced stays so. Its rematch has a result too.
+        for results, out in (("keep", ["cup-002"]), ("void", ["cup-002", "cup-004"])):
+            after = replace(before, players=players, withdrawn_results=results)
+            found = grown(history, after, ROLES, lambda match: match.id in ("cup-001", "cup-004") or None).matches
+            self.assertEqual([(match.id, match.withdrawn) for match in found if match.withdrawn], [(match, "p1 has withdrawn: why") for match in out])
 
     def test_the_number_of_matches_before_is_looked_at(self):
         why = raised(Misfit, grown, History(((5, competition(2)),)), competition(3), ROLES, nothing_known)
@@ -109,7 +120,7 @@ class Growth(unittest.TestCase):
     def test_the_limit_of_matches(self):
         orders = [Again("cup-005", "cup-001", "x"), Again("cup-006", "cup-002", "x")]
         more, same = (competition(3, 1, ("two",)), competition(4, 1, ("two",))), (competition(2),)
-        # The first nine matches that the second file alone would give do not include all matches of the first file.
+        # The first nine matches that follow from the second file do not include all matches of the first file.
         many = competition(3, 1, ("two",)), competition(6, 1, ("two",))
         cases = (12, more, [], False), (11, more, [], True), (6, same, orders, False), (5, same, orders, True), (8, many, [], True)
         for most, versions, again, is_past in cases:
@@ -170,7 +181,7 @@ class Growth(unittest.TestCase):
         orders = Again("cup-007", "cup-001", "x"), Again("cup-009", "cup-002", "x")
         games = ("three", "more")
         for history, after, words in (
-            (History((), orders), competition(2), "cup-007, which was ordered again, is not the next match"),
+            (History((), orders), competition(2), "the rematch cup-007 is not the next match of the schedule"),
             (History(((8, competition(4, 1, games)),)), competition(5, 2, games), "more has more than two roles, so add rounds and players separately"),
             (History(((9, competition(3)),)), competition(3, head="strikes = 1"), "strikes was 0 and is now 1"),
         ):

@@ -39,7 +39,7 @@ class Histories(unittest.TestCase):
 
     def test_the_seeds_are_the_order_of_a_table(self):
         competition, table = read_competition(toml([(name, f"{name}:1") for name in ("ann", "bob", "cid", "dan")], [("nim", "f")]).encode()), self.folder.seeds
-        table.write_text("game,player,goals\nall games,cid,9\n\nall games,eve,8\nall games,bob,7\nnim,ann,9\n")
+        table.write_text("game,player,goals\nall games,cid,9\n\nall games,eve,8\nall games,bob,7\nnim,dan,9\n")
         self.assertEqual([player.name for player in seeded(competition, table).players], ["cid", "bob", "ann", "dan"])
         table.write_text("game,player\n")
         self.assertEqual(seeded(competition, table), competition)

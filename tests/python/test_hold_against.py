@@ -33,7 +33,7 @@ class Held(unittest.TestCase):
         holding = Holding(ONE_TURN)
         self.assertEqual(holding.held(RECORD), (SAME, "the same: 1 turn"))
         status, words = holding.held(OTHER)
-        self.assertEqual((status, words.startswith("differs: ann has the goal 7 in the record")), (DIFFERENT, True))
+        self.assertEqual((status, words.startswith("differs: ann has the goal value 7 in the record")), (DIFFERENT, True))
         self.assertEqual(holding.held(WRONG), (NOT_FOLLOWED, NO_KEY))
         self.assertEqual(Holding("(p", "a.kif").held(RECORD), (NOT_FOLLOWED, "not followed: a.kif: line 1, column 1: a list that is not closed; add a `)`"))
         self.assertEqual(Holding("(role a)\n(<= p (q ?x) (not (r ?y)))", "a.kif").held(RECORD)[1], "not followed: a.kif: line 2, column 1: ?y is unsafe: it occurs in no sentence of the body except negated ones: (<= p (q ?x) (not (r ?y))); add a condition with ?y that is not negated")

@@ -1,4 +1,4 @@
-"""Records are checked against the published description. The check finds each difference, and reports it with the sentence that shows it."""
+"""Checks of records against the published description. Each difference is found, and reported with the sentence that shows it."""
 
 import contextlib
 import json
@@ -44,7 +44,7 @@ class Followed(unittest.TestCase):
             f"the first state lacks t{at}, which sentence {5 + terms.index(f't{at}')}, line 1: (init t{at}) gives" for at in (1, 2, 3, 4, 5)
         ])
         self.assertEqual(self.words(self.RULES, states=[["s", *terms]]).splitlines(), [
-            f"the first state has t{at}, which no sentence of the description gives there" for at in (1, 2, 3, 4, 5)
+            f"the first state has t{at}, which no sentence of the description gives" for at in (1, 2, 3, 4, 5)
         ])
         said = self.words(f"{self.RULES} {' (init s)' * 6}", states=[["x"]])
         self.assertEqual(said.splitlines()[0].count("(init s) gives"), 5)
@@ -116,7 +116,7 @@ class Followed(unittest.TestCase):
     def test_a_move_that_several_sentences_give_stands_by_the_first_that_was_seen_to(self):
         rules = "(role ann) (init s) (<= (legal ann go) (true t)) (legal ann stay) (<= (legal ann go) (true s)) (<= (next t) (true s)) (<= (next s) (true t))"
         turns = {"moves": [("go",)] * 3, "states": [["s"], ["t"], ["s"], ["t"]], "roles": ("ann",)}
-        # The first sentence of the game for `go` may not derive it here: then its place is unknown.
+        # The first sentence for `go` may not derive it in this state. Then the place of `go` is unknown.
         self.assertIsNone(self.words(rules, **turns, errors=[["TO"], [""], ["TO"]]))
         turns["moves"] = [("stay",), ("go",), ("stay",)]
         self.assertIsNone(self.words(rules, **turns, errors=[["TO"], [""], [""]]))
@@ -171,14 +171,14 @@ class Followed(unittest.TestCase):
         over = {"phase": "finished", "states": [["s"]]}
         text = f"{self.RULES} (<= terminal (true s)) (goal ann 5) (goal bob 6)"
         self.assertIsNone(self.words(text, **over, goals=(5, 6)))
-        self.assertEqual(self.words(text.replace("(goal bob 6)", ""), **over, goals=(5, 6)), "bob has the goal 6 in the record, but according to the description none")
-        said = "bob has the goal 6 in the record, but according to the description sentence 7, line 1: (goal bob 6) gives 6; sentence 8, line 1: (goal bob 7) gives 7"
+        self.assertEqual(self.words(text.replace("(goal bob 6)", ""), **over, goals=(5, 6)), "bob has the goal value 6 in the record, but according to the description none")
+        said = "bob has the goal value 6 in the record, but according to the description sentence 7, line 1: (goal bob 6) gives 6; sentence 8, line 1: (goal bob 7) gives 7"
         self.assertEqual(self.words(f"{text} (goal bob 7)", **over, goals=(5, 6)), said)
         self.assertIn("but not in the description", self.words(f"{self.RULES} (goal ann 5) (goal bob 6)", **over, goals=(5, 6)))
 
 
 class Records(unittest.TestCase):
-    """A text that is not a record, or a record that lacks something, is neither accepted nor a bug of the command."""
+    """A text that is not a record, or lacks a part of a record, is not accepted, and is not reported as a bug of the command."""
 
     def setUp(self):
         self.record, self.holding = played(expressions(ONE_TURN_GROUND), 1), Holding(ONE_TURN)

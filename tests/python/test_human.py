@@ -6,6 +6,7 @@ import http.client
 import io
 import itertools
 import json
+import pathlib
 import re
 import select
 import signal
@@ -23,6 +24,7 @@ from ggp_tools.human import seat, server
 from ggp_tools.human.game import Shown
 from ggp_tools.human.seat import MOST_MESSAGE, Seat, Unread, head_of, members_of
 from ggp_tools.human.server import MOST_CONNECTIONS, Server
+from ggp_tools.kif import Refused
 from ggp_tools.records.show import boards_of, places_of
 from html_pages import parsed, text_of
 from support import GAMES, TOP
@@ -34,22 +36,29 @@ OPEN = """
 (<= (next (said ?r ?n)) (does ?r (say ?n))) (<= terminal (true (said a ?n))) (<= (goal a 100) (true (said a 1))) (<= (goal a 0) (true (said a 2)))
 (<= (goal b 50) (role b))
 """
-# The most seconds that a thread waits for a person's action on a busy computer.
+# The maximum time, in seconds, for which a thread waits for a person's action on a busy computer.
 SECONDS = 60
 
 
 class Messages(unittest.TestCase):
     def test_an_id_is_kept_as_it_is_written(self):
         start = "(START Ab.c Red ((role red)) 5 7)"
-        self.assertEqual((head_of(start), members_of(start)), (("start", "Ab.c"), ("red", (("role", "red"),), "5", "7")))
+        self.assertEqual((head_of(start), members_of(start)), (("start", "Ab.c"), ["Red", "((role red))", "5", "7"]))
         self.assertEqual(head_of("info"), ("info", ""))
 
     def test_a_start_that_is_nested_too_deeply_is_not_read_to_its_end(self):
         with self.assertRaisesRegex(Unread, "lists are nested more than"):
             members_of("(START a " + "(" * MOST_MESSAGE)
 
+    def test_longer_rules_than_the_referee_can_send_are_refused(self):
+        with mock.patch.dict(seat.LARGE, {"sentences": 3, "bytes": len("(role a)(init(b c))(f)")}):
+            for rules in ("((role a) (init (b c)) (f))", "((role a) b c)"):
+                self.assertEqual(seat.game_of(rules).roles, ["a"])
+            for rules in ("((role a) (init (b cd)) (f))", "((role a) b c d)", "((role a) b c (d))", "role"):
+                self.assertRaises(Refused, seat.game_of, rules)
+
     def test_what_is_no_message_is_refused(self):
-        for text in ("", "(", "x", "(PLAY)", "(PLAY a) (PLAY b)", "(info x)", "(PLAY a (b)", "(PLAY a b))"):
+        for text in ("(START ;", "(PLAY a ;)", "", "(", "x", "(PLAY)", "(PLAY a) (PLAY b)", "(info x)", "(PLAY a (b)", "(PLAY a b))"):
             self.assertRaises(Unread, lambda: (head_of(text), members_of(text)))
 
 
@@ -86,7 +95,7 @@ class Seats(unittest.TestCase):
         self.seat.page_opens(1)
 
     def ask(self, text):
-        """Lets the seat answer a message in another thread, like the referee's."""
+        """Lets the seat answer a message in another thread, as the server does with messages of the referee."""
         thread = threading.Thread(target=lambda: self.answers.append(self.seat.answer(text)))
         thread.start()
         return thread
@@ -209,25 +218,58 @@ class Seats(unittest.TestCase):
         endless.join(SECONDS)
         self.assertEqual((self.answers, self.seat.answer("(PLAY M NIL)")), (["busy"], "noop"))
 
+    def late(self, name):
+        """Makes a call of the game of this match wait. Returns the events that it has begun, and that it may end."""
+        is_begun, may_end, call = threading.Event(), threading.Event(), getattr(self.seat.shown, name)
+        self.addCleanup(may_end.set)
+
+        def late_call(*arguments):
+            is_begun.set()
+            self.assertTrue(may_end.wait(SECONDS))
+            return call(*arguments)
+
+        setattr(self.seat.shown, name, late_call)
+        return is_begun, may_end
+
+    def test_moves_that_take_forever_to_evaluate_do_not_keep_the_seat(self):
+        self.begin()
+        is_begun, may_end = self.late("advance")
+        endless = self.ask("(PLAY M ((mark 1 1) noop))")
+        self.assertTrue(is_begun.wait(SECONDS))
+        self.assertIsNone(self.seat.leave("M"))
+        self.assertEqual(self.seat.answer(f"(START N oplayer ({RULES}) 60 60)"), "ready")
+        may_end.set()
+        endless.join(SECONDS)
+        self.assertEqual((self.answers, self.seat.view["phase"], self.seat.answer("(PLAY N NIL)")), ([None], "ready", "noop"))
+
+    def test_a_message_waits_for_an_earlier_one_only_as_long_as_its_clock(self):
+        self.begin()
+        with mock.patch.object(seat, "PATIENCE", 0), self.seat.reading:
+            self.assertRaises(Unread, self.seat.answer, "(STOP M NIL)")
+        self.assertIn("they take too long", self.seat.view["note"])
+        self.begin()
+
+    def test_rules_that_need_too_much_memory_end_the_match(self):
+        text = f"(START M xplayer ({RULES}) 60 60)"
+        with mock.patch.object(seat, "game_of", side_effect=MemoryError):
+            self.assertEqual(self.seat.answer(text), "busy")
+        self.assertIn("they need too much memory", self.seat.view["note"])
+        self.begin()
+        with mock.patch.object(self.seat.shown, "advance", side_effect=MemoryError):
+            self.assertRaises(Unread, self.seat.answer, "(PLAY M ((mark 1 1) noop))")
+        self.assertIn("they need too much memory", self.seat.view["note"])
+        self.assertEqual((self.seat.answer("(PLAY M NIL)"), self.seat.answer(text)), ("busy", "ready"))
+
     def test_what_ends_late_does_not_end_another_match(self):
         self.begin()
-        is_asked, is_over = threading.Event(), threading.Event()
-        self.addCleanup(is_over.set)
-        goals = self.seat.shown.goals
-
-        def late_goals():
-            is_asked.set()
-            is_over.wait(SECONDS)
-            return goals()
-
-        self.seat.shown.goals = late_goals
+        is_asked, is_over = self.late("goals")
         stop = self.ask("(STOP M NIL)")
         self.assertTrue(is_asked.wait(SECONDS))
         self.seat.leave("M")
         self.assertEqual(self.seat.answer(f"(START N oplayer ({RULES}) 60 60)"), "ready")
         is_over.set()
         stop.join(SECONDS)
-        self.assertEqual((self.seat.match, self.seat.view["phase"]), ("N", "ready"))
+        self.assertEqual((self.answers, self.seat.match, self.seat.view["phase"]), (["done"], "N", "ready"))
 
     def test_another_match_begins_only_once_the_referee_is_lost(self):
         self.begin()
@@ -497,7 +539,7 @@ class Pages(unittest.TestCase):
             self.assertEqual(self.post("(INFO)"), b"available")
             begun = [call.args[1][0] for call in process.call_args_list]
             self.assertEqual((len(begun), begun[-1]), (most + 1, "127.0.0.1"))
-        # The referee has no such share.
+        # This limit does not apply to the referee.
         self.assertEqual({self.post("(INFO)") for _ in range(200)}, {b"available"})
 
     def half(self, source, count, size=60_000):
@@ -578,10 +620,10 @@ class Pages(unittest.TestCase):
             answer = line.recv(100)
         self.assertEqual(answer, b"")
 
-    def test_a_message_may_have_32_mib(self):
+    def test_a_message_may_have_24_mib_and_128_kib(self):
         self.seat.page_opens(1)
-        self.assertEqual(self.post("(INFO)".ljust(33_554_432)), b"available")
-        self.assertEqual(self.request("POST", "/", headers={"Content-Length": "33554433"}).status, 400)
+        self.assertEqual(self.post("(INFO)".ljust(25_296_896)), b"available")
+        self.assertEqual(self.request("POST", "/", headers={"Content-Length": "25296897"}).status, 400)
 
     def test_messages_that_waited_to_be_accepted_are_taken_in_their_order(self):
         self.post("INFO")
@@ -635,6 +677,7 @@ class Command(unittest.TestCase):
         address, port = re.fullmatch(r"open (http://127\.0\.0\.1:([0-9]+)/\S*)\n", served.stderr.readline()).groups()
         with urllib.request.urlopen(address) as page:
             self.assertIn(b"<html", page.read())
+        self.assertRegex(pathlib.Path(f"/proc/{served.pid}/limits").read_text(), "Max data size +2147483648 ")
         other = subprocess.run([*words, port], capture_output=True, text=True)
         self.assertEqual((other.returncode, other.stderr), (1, f"ggp-human: 127.0.0.1:{port}: Address already in use\n"))
         served.send_signal(signal.SIGINT)

@@ -33,7 +33,7 @@ class InBrowser(unittest.TestCase):
         self.page = self.browser.page(f"http://127.0.0.1:{server.server_address[1]}{server.page}")
 
     def ask(self, text: str) -> threading.Thread:
-        """Lets the seat answer a message in another thread, like the referee's."""
+        """Lets the seat answer a message in another thread, as the server does with messages of the referee."""
         thread = threading.Thread(target=lambda: self.answers.append(self.seat.answer(text, sender=self.sender)), daemon=True)
         thread.start()
         return thread
@@ -60,7 +60,7 @@ class InBrowser(unittest.TestCase):
         self.assertEqual(page.unreadable(), [])
         page.click(f"{CELLS}.find((cell) => cell.title.startsWith('2 2'))")
         self.assertEqual(self.answered(asked), "(mark 2 2)")
-        # A single legal move is made without asking.
+        # If there is only one legal move, it is made without asking.
         self.assertEqual(self.answered(self.ask("(PLAY M ((mark 2 2) noop))")), "noop")
         asked = self.ask("(PLAY M (noop (mark 1 3)))")
         page.until("document.querySelectorAll('.board button.can').length === 7")

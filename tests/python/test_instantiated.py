@@ -14,7 +14,7 @@ from support import GAMES, TOP, InFolder, run, toml
 
 NIM = GAMES / "general/nim.kif"
 PLAYERS = [("ann", "127.0.0.1:9"), ("bob", "127.0.0.1:10")]
-# This game has 810,000 instances, which splitting cannot reduce, and takes a few seconds.
+# This game has 810,000 instances. Splitting cannot reduce their number, and grounding takes a few seconds.
 LONG = "(role a) (init s) " + " ".join(f"(n {at})" for at in range(30)) + "(<= (legal a (m ?a ?b ?c ?d)) (n ?a) (n ?b) (n ?c) (n ?d) (true s))"
 LONG += "(<= terminal (true t)) (goal a 1)"
 
@@ -61,7 +61,7 @@ class Kept(InFolder):
         own.rename(self.folder / "elsewhere")
         own.symlink_to(self.folder / "elsewhere")
         self.assertIsNone(kept.kept("key"))
-        # Writing a file does not follow a link either.
+        # Writing a file does not follow a link, either.
         unfinished = folder / f"{UNFINISHED}{os.getpid()}-new"
         unfinished.symlink_to(self.folder / "elsewhere")
         before = (self.folder / "elsewhere").read_bytes()

@@ -70,7 +70,7 @@ class Folding(unittest.TestCase):
         rules = dice_game(random.Random(0))
         small, large = folding.Target(20, 1 << 20), folding.Target(10_000, 1 << 20)
         self.assertEqual([folding.folded(rules, targets).sentences() for targets in ([small], [large], [small, large])], [20, 42, 20])
-        # If a target is impossible or takes too much work, the next target is tried.
+        # If a target is impossible, or takes too much work, the next target is tried.
         too_short = small._replace(bytes=folding.begun(rules).bytes() // 2 - 1, work=1_000_000)
         late = small._replace(work=folding.folded(rules, [small]).formulas.work - 1)
         folding.begun(rules).must_have_room(late)
@@ -101,7 +101,7 @@ class Folding(unittest.TestCase):
         self.assertEqual(str(why), "sentences (at least 18 of 12)")
 
     def test_what_games_by_dice_come_to(self):
-        # The number of sentences, the bytes, and the beginning of the checksum: these show any change of factoring.
+        # The number of sentences, the bytes, and the beginning of the checksum. These numbers reveal any change of factoring.
         for seed, most, most_bytes, *figures in (
             (0, 10_000, 1 << 20, 42, 1_441, "0978b570"), (0, 20, 1 << 20, 20, 1_471, "d823b622"), (0, 0, 0, 12, 8_518, "0193cc32"), (0, 14, 1 << 20, 14, 2_405, "67a8290d"),
             (1, 10_000, 1 << 20, 44, 1_510, "dc99034a"), (1, 20, 1 << 20, 20, 1_575, "f6e8ec2f"), (1, 0, 0, 12, 7_326, "75f1bb39"),
@@ -193,7 +193,7 @@ class Folding(unittest.TestCase):
         self.assertEqual((round(costs.total()), game.costs(False).total()), (game.bytes(), 3))
 
     def test_parts_cost_those_who_ask_for_them(self):
-        # Two rules of one head. Only the second rule has the body that all other rules share and that becomes a part.
+        # Two rules have the same head. Only the second one has the body that becomes a part, because all other rules share it.
         long = " ".join(f"(true (a-long-name {k}))" for k in range(9))
         rules = [Rule(2, ("next", "c0"), (Literal(True, ("true", "s")),))]
         rules += [Rule(3, ("next", f"c{k}"), tuple(Literal(True, atom) for atom in expressions(long))) for k in range(5)]
@@ -243,7 +243,8 @@ class Rounds(unittest.TestCase):
                 self.compare(rules, found, edges)
 
     def test_ways_that_grow_by_one_edge_are_not_halved(self):
-        # Two paths make a longer one only if the second is an edge of the game: then a round adds one edge, and does not double the path.
+        # Two paths make a longer one only if the second is an edge of the game. So a round adds one edge, and does not double the length of
+        # the path.
         places = range(6)
         rules = [Rule(1, ("w", str(a), str(b)), (Literal(True, ("true", (str(a), str(b)))),)) for a, b in itertools.product(places, repeat=2)]
         for start, middle, end in itertools.product(places, repeat=3):
@@ -256,7 +257,7 @@ class Rounds(unittest.TestCase):
             self.compare(rules, found, [(str(a), str(b)) for a, b in itertools.product(places, repeat=2) if dice.random() < 0.2])
 
     def test_ways_that_go_over_others_outside_are_not_halved(self):
-        # Any two paths make a longer one, but not every path consists of two halves: the path from 0 to 0 over 4, 1 and 2 does not.
+        # Any two paths make a longer one, but not every path consists of two halves. The path from 0 to 0 over 4, 1 and 2 does not.
         ends = ["00", "02", "04", "10", "11", "12", "14", "20", "24", "40", "41", "44"]
         rules = [Rule(1, ("w", *way), (Literal(True, ("true", way)),)) for way in ends]
         for way, onward in itertools.product(ends, repeat=2):
@@ -281,7 +282,7 @@ class Rounds(unittest.TestCase):
             self.compare(rules, found, [name for name in named.values() if dice.random() < 0.6])
 
     def test_what_goes_one_way_alone_saves_no_round(self):
-        # 1 can be derived from 2, 3 and 4, 2 from 3 and 4, 3 from 4, and 4 from 1: from 1 it takes two rounds to 2 and 3.
+        # 1 can be derived from 2, 3 and 4; 2 from 3 and 4; 3 from 4; and 4 from 1. Starting with 1, it takes two rounds to derive 2 and 3.
         steps = {"1": "234", "2": "34", "3": "4", "4": "1"}
         for order in itertools.permutations(steps):
             rules = [Rule(1, ("w", start), (Literal(True, ("true", start)),)) for start in order]
@@ -325,7 +326,7 @@ class Texts(unittest.TestCase):
             said = str(raised(Refused, making.Making((GAMES / "general/hex.kif").read_text(), 60, making.WHERE_NEEDED).run))
         self.assertTrue(said.startswith("nothing is written, because this exceeds the limit however it is factored: sentences (at least "), said)
         self.assertIn(" ground sentences, because 2 cycles of sentences are unrolled, the largest, of 25 sentences with (joined ", said)
-        # There are more unrolled sentences than instances of any sentence.
+        # There are more unrolled sentences than any sentence has instances.
         self.assertNotIn("the most instances", said)
 
     def test_few_instances_are_tried_first(self):

@@ -14,7 +14,7 @@ from players import TestPlayer
 from support import GAMES, TOP, InFolder, command_of, program, program_but, run, script, start, wait_until
 
 HEAD = "start = 60\nplay = 60\nstrikes = 1\nwait = 0\ninfo = 10\ntries = 2\n"
-# The command with different times after which a job is lost, or after which its match has certainly ended.
+# The command with other time limits: after these times a job is lost, or its match has certainly ended.
 OTHER = f"import sys; sys.path.insert(0, {str(TOP / 'python')!r})\nfrom ggp_tools.competition import command, jobs, open_match\n%s\nsys.exit(command.main())"
 NODE = socket.gethostname()
 
@@ -150,7 +150,7 @@ class Launched(InFolder):
         self.assertEqual([player.begun for player in self.players], [[], []])
 
     def test_a_job_that_is_lost_with_its_node_is_begun_again(self):
-        # What the shell itself prints about the killed job goes to a file.
+        # The shell's own messages about the killed job go to a file.
         lost = (
             '[ -e $folder/lost ] && exec "$@"; touch $folder/lost; "$@" <&0 & job=$!; read line < $folder/cut;'
             ' { kill -9 $job; wait $job; } 2> $folder/killed; echo "srun: error: Node failure" >&2'
@@ -176,7 +176,7 @@ class Launched(InFolder):
         self.planned('[ -e $folder/lost ] && exec "$@"; touch $folder/lost; echo "ggp_competition: node n1" >&2; exec sleep 6000')
         playing = self.started_with("open_match.SILENCE = 0.5; jobs.LOST_SECONDS = 20", program())
         out, said = playing.communicate(timeout=800)
-        self.assertEqual((playing.returncode, said, lines(out, "lost")), (0, "", ["lost cup-001 on n1: nothing was heard from it for 20 s"]), out)
+        self.assertEqual((playing.returncode, said, lines(out, "lost")), (0, "", ["lost cup-001 on n1: it sent nothing for 20 s"]), out)
         self.assert_sound(self.schedule)
 
     def test_a_referee_that_fails_costs_its_match(self):

@@ -27,7 +27,7 @@ CUT = "ggp_manager: the service ended, and cut connections that were still open 
 
 
 class Service:
-    """A desk that listens. `end` closes its standard input; after that, `history`, `records` and `errors` have its output."""
+    """A desk that listens. `end` closes its standard input. After that, `history`, `records` and `errors` have its output."""
 
     def __init__(self, folder: pathlib.Path, options: Sequence[str], game: str, address: str, before: Sequence[str], files: Sequence[str]) -> None:
         self.files, self.game, pipe = [folder / name for name in files], game, subprocess.PIPE
@@ -71,8 +71,8 @@ def serving(
     before: Sequence[str] = (),
     files: Sequence[str] = ("history", "records"),
 ) -> Iterator[Service]:
-    """Yields a desk that listens, and ends it. Its standard error must match the pattern `errors`. A busy computer may not notice within 5 seconds
-    that a client is gone."""
+    """Yields a desk that listens, and ends it. Its standard error must match the pattern `errors`. On a busy computer, the desk may not
+    notice within 5 seconds that a client is gone."""
     service = Service(folder, options, game, address, before, files)
     try:
         yield service
@@ -85,7 +85,7 @@ def serving(
 
 
 def one_line_each(calls: list[list[bytes]]) -> bool:
-    """Returns whether all calls of each match were made over one line."""
+    """Returns whether all calls about a match were made over the same line, for each match."""
     lines = {(call.split()[1], line) for line, call, _ in calls}
     return len(lines) == len({match_id for match_id, _ in lines})
 

@@ -16,6 +16,7 @@ from ggp_tools.competition.live_board import NO_LINE, NO_VERDICT, TOO_LONG, Live
 from ggp_tools.competition.live_pages import now_part, open_row, replaced_part, state_html, turn_row
 from ggp_tools.competition.open_match import leave_players
 from ggp_tools.competition.schedule import Match
+from ggp_tools.competition.tail import Extent
 from ggp_tools.kif import expressions
 from ggp_tools.match_log import Message, event_of
 from ggp_tools.records import show
@@ -35,7 +36,7 @@ def shown(seen):
 
 
 def setUpModule():
-    """On a busy computer, the referee and the reading of the records may take a long time. These tests do not wait for them."""
+    """On a busy computer, the referee and the reading of the records may take a long time. These tests do not wait for that."""
     unittest.enterModuleContext(patch.object(live, "READING", 1e9))
     for share in ("SHARE", "REFEREE_SHARE"):
         unittest.enterModuleContext(patch.object(live, share, 0))
@@ -106,6 +107,15 @@ class Lines(InRoom):
         self.assertIs(before[other.id], after[other.id])
         self.assertIs(reader.read_open_files(), after)
 
+    def test_a_long_delay_keeps_few_snapshots(self):
+        delay = Delay(3_600)
+        for moment in range(10_000):
+            with patch.object(live, "clock", lambda: float(moment)):
+                shown = delay.snapshot({}, Extent(moment), True)
+                self.assertLess(len(delay.snapshots), 603)
+            if moment > 3_600:
+                self.assertIn(moment - shown.journal.size, range(3_600, 3_607))
+
     def test_whom_a_match_waits_for(self):
         log, reader = begin(self.plan, self.match), self.reader()
         self.look(reader)
@@ -114,7 +124,7 @@ class Lines(InRoom):
         self.assertEqual(shown(seen), "the answers to START")
         self.say(log, started(self.match))
         self.look(reader)
-        # The state has the role whose turn it is, which is shown until the turn is over.
+        # The state names the role whose turn it is. The pages show this role until the turn is over.
         self.assertEqual((seen.turn(), seen.awaited(), shown(seen)), (1, [0], f"red to move: {self.match.players[0]}"))
         before = reader.version, seen.since
         self.say(log, self.play(2, "NIL", ["(take 1)"], [0]))
@@ -135,7 +145,7 @@ class Lines(InRoom):
         self.assertEqual(shown(seen), f"blue to move: {self.match.players[1]}")
 
     def seen_after(self, *texts, strikes=0, start=None):
-        """Returns what is shown of the first match after these lines."""
+        """Returns what the pages show of the first match after these lines."""
         plan = plan_in(self.plan.folder.path, ["ann", "bob"], head=f"strikes = {strikes}\n" if strikes else "")
         begin(plan, self.match, (started(self.match) if start is None else start) + "".join(texts))
         reader = self.reader(plan)
@@ -157,7 +167,7 @@ class Lines(InRoom):
         # The match continues, even if this error retires the player.
         seen = self.seen_after(log, self.play(3, "((take 1) noop)", ["noop"], [0]), strikes=1)
         self.assertEqual((seen.turn(), seen.awaited()), (3, [0]))
-        # The player may answer with this text.
+        # A player may also answer with exactly this text.
         seen = self.seen_after(self.play(2, "NIL", ["(take 1)", "lost (out of ports)"]), strikes=1)
         self.assertEqual([(move.turn, move.error, move.move) for move in seen.replaced], [(1, "IL ?", "noop")])
 
@@ -232,6 +242,16 @@ class Lines(InRoom):
         self.plan.folder.record(self.match.id).unlink()
         look(reader)
         self.assertEqual(reader.results, {})
+
+    def test_a_match_with_a_result_is_not_open(self):
+        room, reader = begin(self.plan, self.match, started(self.match)).parent, self.reader()
+        look(reader)
+        end(self.plan, self.match, record_of(self.match, [["(take 1)", "noop"]], [["", ""]], [0, 100]))
+        # `play` removes the directory only after it has written the record.
+        room.mkdir()
+        (room / "checking").touch()
+        look(reader)
+        self.assertEqual((list(reader.open), list(reader.results), list(reader.ended), len(reader.waiting())), ([], [self.match.id], [self.match.id], 5))
 
     def test_what_comes_into_a_folder_without_changing_its_time_is_seen(self):
         first, second = self.plan.matches[:2]

@@ -24,7 +24,7 @@ RULES = f"(role a) (role b) (init (step 1)) {STEPS} (<= terminal (true (step 8))
 RULES += "".join(f"(legal {role} {move}) (<= (next (did {role} {move})) (does {role} {move}))" for role, move in (
     ("a", "to"), ("a", "lost"), ("a", "noop"), ("b", "noop"), ("b", "to"),
 ))
-# None: the connection is closed without an answer.
+# None means that the connection is closed without an answer.
 LEGAL = b"noop", b"NOOP\n", b" to ", b"noop\r\n", b"TO", b"to\t", b"; mine\nto", b"; a\n;b\r\nnoop ; c\n", b" " * 250 + b"to", b"to ;" + b"x" * 250
 LEGAL += b";" + b"\xff" * 4_000 + b"\nto", b"\n" * 4_094 + b"to"
 ILLEGAL = b"bad", b"(noop)", b"noop noop", b"", b"bad\n", None, b"no\xe9op", b"ce", b"CE", b"to\n; more\n(to", b"noop;\n;" + b"x" * 4_096, b"x" * 65_536
@@ -118,7 +118,7 @@ class Matches(InFolder):
         self.assertEqual(referee.asked, 2 + len(record["moves"]))
 
     def assert_shown(self, seen: LiveMatch, before: list[Message], after: list[Message], record: dict) -> None:
-        """Checks the page after this many answers, and uses the later messages to find out what it must show."""
+        """Checks the page after this many answers. What it must show is computed with the help of the later messages."""
         position, left = seen.board.position, set(map(round_of, after))
         turns = [turn for turn in range(1, len(record["moves"]) + 1) if turn not in left and 0 not in left]
         self.assertEqual(seen.board.trouble, "")

@@ -18,7 +18,7 @@ OPEN = b"(role x) (init a) (legal x m) (<= (next ?t) (true ?t)) (goal x 1)\n"
 
 
 class Takes:
-    """A referee that accepts each text, or refuses it: always, or only with the usual limits."""
+    """A fake referee. It accepts each text, or refuses each text, or refuses each text only with the usual limits."""
 
     def __init__(self, why=None, is_large=False, also_large=True):
         self.why, self.asked, self.is_large, self.also_large = why, [], is_large, also_large

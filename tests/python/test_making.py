@@ -19,7 +19,7 @@ MANY_TERMS = "(role r) (legal r m) (goal r 1) (<= terminal (true b1))" + "".join
 def made(text, wanted=WHERE_NEEDED, seconds=60, is_split=False, is_large=False):
     """Returns the output (or the reason for a refusal) and the reports."""
     lines = []
-    # On a busy computer a run would report intermediate results at once.
+    # On a busy computer, a run might otherwise report intermediate results.
     with mock.patch.object(making, "report", lines.append), mock.patch.object(making, "SOON", math.inf):
         try:
             found = Making(text, seconds, wanted, is_split, is_large).run()
@@ -49,7 +49,7 @@ class Made(unittest.TestCase):
     def test_what_is_written_and_said(self):
         found, said = made(GAME)
         self.assertEqual(found.splitlines(), [
-            "; goals above 100 are left out (2, the first by sentence 9, line 3: (<= (goal ?p 101) (role ?p) (true (c 3)))): if one would hold at the end, the role gets the other goal that holds there; if there is none, the match has no goals",
+            "; goals above 100 are left out (2, the first by sentence 9, line 3: (<= (goal ?p 101) (role ?p) (true (c 3)))): if a role would have such a goal value at the end, it gets its other goal value; if it has no other, the match has no goal values",
             "(role r)", "(role s)", "(init (c 1))", "(legal r (m 1))", "(legal r (m 2))", "(legal s (m 1))", "(legal s (m 2))",
             "(<= (next (c 2)) (true (c 1)) (does r (m 1)))", "(<= (next (c 3)) (true (c 2)) (does r (m 2)))", "(<= terminal (true (c 3)))", "(goal r 50)", "(goal s 50)",
         ])
@@ -67,7 +67,7 @@ class Made(unittest.TestCase):
         self.assertTrue(str(found).startswith("nothing is written, because this exceeds the limit however it is factored: sentences (at least "), found)
 
     def test_what_is_past_the_usual_limits_says_that_it_is_large(self):
-        # The game cannot be factored to fit the limits, or factoring takes too much work, or nobody asked for it.
+        # The game cannot be factored to fit the limits, or factoring takes too much work, or factoring was not requested.
         for most, work, options in ((8, 400_000, {}), (11, 1, {}), (11, 400_000, {"is_large": True}), (11, 400_000, {"wanted": NEVER})):
             with mock.patch.dict(limits.MOST, {"sentences": most}), mock.patch.object(making, "MOST_WORK", work):
                 found, said = made(GAME, **options)

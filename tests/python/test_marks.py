@@ -46,7 +46,7 @@ class Glyphs(unittest.TestCase):
         self.assertEqual(shown("queen hearts", "10_of_clubs"), {"queen hearts": ("Q\u2665", "red"), "10_of_clubs": ("10\u2663", "")})
 
     def test_what_may_be_something_else_is_text(self):
-        # One code is not a set of pieces, a blank counts only next to other marks, and numbers are shown unchanged.
+        # One code is not a set of pieces. A blank counts only next to other marks. Numbers are shown unchanged.
         for label in ("bk", "b", "w", "17", "king a", "man"):
             self.assertEqual(shown(label)[label][0] == label, label != "man", label)
 

@@ -31,13 +31,14 @@ RULES = Rules(b"(role a) (role b)", "", ("a", "b"))
 
 
 class Counting:
-    """A fake referee that accepts no record, and stores the number of records in each call."""
+    """A fake referee that accepts no record, and stores the number of records in each call, and whether only one such call is made at a time."""
 
     def __init__(self):
-        self.counts = []
+        self.counts, self.alone = [], []
 
     def verdicts(self, _, records):
         self.counts.append(len(records))
+        self.alone.append(match_files.LARGE.locked())
         return ["not lawful: goals"] * len(records)
 
     def replays(self, _, accounts, records):
@@ -50,7 +51,7 @@ class Short(Counting):
 
 
 def broken_off(function, count, fault):
-    """Returns a function that works this many times, and then raises this error."""
+    """Returns a function that works this many times, and raises this error after that."""
     left = iter([None] * count)
 
     def called(*words):
@@ -80,16 +81,16 @@ class Kept(unittest.TestCase):
         referee = Counting()
         results, faults, misfits = check_records(self.plan, referee)
         self.assertEqual((results, set(faults.values()), len(faults), misfits), ({}, {"not lawful: goals"}, len(self.plan.matches), {}))
-        return referee.counts
+        return referee.counts, [at for at, is_alone in enumerate(referee.alone) if is_alone]
 
     @mock.patch("ggp_tools.competition.match_files.PROCESSORS", 1)
     def test_so_many_and_so_many_bytes_are_checked_together(self):
         self.matches(*[20] * 600)
-        self.assertEqual(self.counts(), [250, 250, 100])
+        self.assertEqual(self.counts(), ([250, 250, 100], []))
         with mock.patch("ggp_tools.competition.match_files.BYTES_TOGETHER", 200):
             self.plan.matches.clear()
             self.matches(50, 50, 50, 300, 20, 20, 100, 20)
-            self.assertEqual(self.counts(), [2, 1, 1, 2, 1, 1])
+            self.assertEqual(self.counts(), ([2, 1, 1, 2, 1, 1], [2]))
 
     @mock.patch("ggp_tools.competition.match_files.BYTES_TOGETHER", 200)
     def test_just_so_many_bytes_are_checked_together(self):
@@ -174,8 +175,8 @@ class Kept(unittest.TestCase):
 
 
 class Said(Counting):
-    """A fake referee whose verdict on each record is in the record. It reproduces a call log if this contains `right`, and keeps the call logs and
-    records that it received."""
+    """A fake referee whose verdict on each record is in the record itself. It reproduces a call log if the call log contains `right`. It
+    remembers the call logs and records that it received."""
 
     def __init__(self, path):
         super().__init__()
@@ -241,13 +242,15 @@ class Looked(unittest.TestCase):
 
     def test_a_verdict_stands_before_what_a_replay_says(self):
         records = [b"{}\n", b'{"verdict":"not lawful: state 1"}\n', b"{}\n"]
-        self.assertEqual(referee_faults(self.plan, self.referee, "one", records, [b"right", b"right", b"wrong"]), [None, "not lawful: state 1", "its call log does not reproduce its record"])
+        # Each game has its limits.
+        self.plan.judge = lambda *asked: {("usual", "one"): self.referee}[asked]
+        self.assertEqual(referee_faults(self.plan, "usual", "one", records, [b"right", b"right", b"wrong"]), [None, "not lawful: state 1", "its call log does not reproduce its record"])
         self.assertEqual(self.referee.replayed, [(b"right", records[0]), (b"wrong", records[2])])
-        self.assertEqual(referee_faults(self.plan, self.referee, "one", [], []), [])
+        self.assertEqual(referee_faults(self.plan, "usual", "one", [], []), [])
 
     def known(self):
-        """Checks everything with the help of the cached facts, and caches the new ones. Returns the results, and the number of records that the
-        referee checked."""
+        """Checks everything with the help of the cached facts, and stores the new ones. Returns the results, and the number of records that
+        the referee checked."""
         known = Known(self.folder.path)
         results, faults, misfits = self.look(known)
         known.write()
@@ -269,7 +272,9 @@ class Looked(unittest.TestCase):
             found, count = self.known()
             self.assertEqual((sorted(found), count), (sorted(results), asked))
             self.assertEqual(self.known(), (found, 0))
-        self.assertEqual(self.known()[0], {match: repr(found) for match, found in self.look()[0].items()})
+            self.assertEqual(found, {match: repr(result) for match, result in self.look()[0].items()})
+        self.plan.competition.strikes = 3
+        self.assertEqual(len(self.look(Known(self.folder.path))[2]), 4)
 
     def test_nothing_is_known_of_what_is_wrong_or_was_judged_by_what_is_gone(self):
         self.write(self.plan.matches[0], verdict="not lawful: goals")
@@ -403,7 +408,7 @@ class Lengths(Looked):
 
 
 class Files(InFolder):
-    """Errors that the bytes of a file alone show."""
+    """Errors that are visible in the bytes of a file."""
 
     def test_what_is_not_handed_to_the_referee(self):
         account = b"0\topen cup-1 0 1 1\topened\n"

@@ -6,7 +6,7 @@ from ggp_tools.holding.game import Game
 from ggp_tools.holding.match import MOST_TURNS, Match, texts_of
 from support import raised
 
-# Each role shows a side once. Red can move in state 2 too, but blue has no move there.
+# Each role shows a side once. In state 2, red can still move, but blue has no move.
 SHOW = """
 (role red) (role blue)
 (init 1) (init (side none))
@@ -41,7 +41,7 @@ class Rules(unittest.TestCase):
         for term, moves in (("1", [["head", "tail"], ["tail", "head"], []]), ("2", [["wait"], [], []])):
             found, position = self.position(term)
             self.assertEqual([found.moves(position, role) for role in ("red", "blue", "green")], moves)
-        # The place of a move is that of the first sentence that can derive the move, even if another sentence derives it here.
+        # The place of a move is that of the first sentence that can derive the move, even if another sentence derives it in this state.
         found = Game("(role r) (<= (legal r b) (true t)) (legal r a) (<= (legal r b) (true s)) (<= (legal r c) (true s)) (init s)")
         self.assertEqual(found.moves(found.position(found.initial), "r"), ["b", "a", "c"])
 

@@ -161,7 +161,7 @@ class Whole(WithMatch):
         self.go()
         self.assertEqual((self.open.result, self.open.why, self.open.is_broken), (None, "ggp_manager: want of memory", True))
         self.assertEqual((self.files(), self.slots.free, self.names()[-1]), ([], {"ann": 1, "bob": 1}, "played"))
-        # The match's directory stays, since the players have not been freed yet.
+        # The match's directory stays, because the players have not been freed yet.
         self.assertTrue((self.open.directory / "players").exists())
 
     def test_if_the_referee_was_killed_the_started_players_are_named(self):
@@ -207,7 +207,8 @@ class Whole(WithMatch):
 
 class Asking(WithMatch):
     def asked(self, *answers, head=None):
-        """Plays a match with these answers of both players. Returns whether it was played, the reason if it was not, and the reports."""
+        """Plays a match in which both players give these answers. Returns whether it was played, the reason if it was not, and the
+        reports."""
         if head:
             self.begin(head)
         self.laid_down |= dict(zip(("ann@h:1", "bob@h:2"), answers))
@@ -363,7 +364,7 @@ class Checking(WithMatch):
 
         with mock.patch.object(checking, "write_report", report):
             why, files = self.checked()
-        self.assertEqual(why, f"compared with the description of heap it differs: turn 1; it is kept as {self.plan.folder.records}/cup-001.json.differs; please report it, with report-cup-001.tar.gz")
+        self.assertEqual(why, f"compared with the description of heap, it differs: turn 1; it is kept as {self.plan.folder.records}/cup-001.json.differs; please report this, and include report-cup-001.tar.gz")
         self.assertEqual((files, self.open.stops_game), (self.kept(".differs"), True))
         self.assert_whole()
         self.assertEqual(reports, [("cup-001", {"description.kif": b"(p ?x)", "record.json": self.record, "account.txt": self.account, "words.txt": b"differs: turn 1\n"})])

@@ -1,4 +1,4 @@
-"""Descriptions, records and logs from other people: no command prints a long line of text from them, or a control character."""
+"""Descriptions, records and logs from other people: no command prints a long line, or a control character, from them."""
 
 import json
 import os
@@ -72,7 +72,7 @@ def files(tmp_path):
 
 
 def assert_short(files, name, *words, has_output=True):
-    """Runs a command, and checks what it prints. With `has_output`, standard output is for people too."""
+    """Runs a command, and checks what it prints. With `has_output`, standard output is also meant for people."""
     environment = {**os.environ, "PYTHONIOENCODING": "utf-8"}
     done = subprocess.run([sys.executable, TOP / "python" / name, *words], cwd=files, capture_output=True, env=environment)
     lines = [line for output in (done.stdout * has_output, done.stderr) for line in output.splitlines()]

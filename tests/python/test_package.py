@@ -1,4 +1,4 @@
-"""The package from outside: each command has its launcher and its entry point, and all modules are in it."""
+"""The package as seen from outside: each command has a launcher and an entry point, and the package contains all modules."""
 
 import os
 import pathlib

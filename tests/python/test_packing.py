@@ -56,7 +56,7 @@ def block(name, kind=tarfile.REGTYPE, data=b"", change=None, form=tarfile.USTAR_
 
 
 def at(place, data):
-    """Returns a change of a header."""
+    """Returns a function that writes these bytes at a position of a header."""
 
     def change(header):
         header[place : place + len(data)] = data
@@ -210,7 +210,7 @@ class Packing(InFolder):
             with self.assertRaisesRegex(TooLarge, f"it has more than {size - 1} bytes, the limit of an archive"):
                 tar_of(files)
         self.assertEqual(packing.MOST_BYTES, 8_589_934_592)
-        # A file of this size is refused before a byte of it is written.
+        # A file of this size is refused before any byte of it is written.
         large = block("cup/a", change=at(124, b"77777777777\0"))
         self.assertEqual(unpacked(HEAD + large + END), "with 'cup/a' it has more than 8,589,934,592 bytes, the limit of an archive")
 

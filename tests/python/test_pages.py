@@ -1,4 +1,4 @@
-"""The pages of 300 matches: each link leads to an existing page, and names and rules appear as text."""
+"""The pages of 300 matches. Each link leads to an existing page, and names and rules appear as text."""
 
 import json
 import os
@@ -57,7 +57,7 @@ TESTS = os.getpid()
 
 
 def killed(_):
-    # The process of the tests must not exit, even if it does the work itself.
+    # The process of the tests must not exit, even if it does the work itself instead of a child process.
     assert os.getpid() != TESTS
     os._exit(1)
 
@@ -79,15 +79,15 @@ class SideBySide(unittest.TestCase):
         self.assertEqual(list(made_side_by_side(number_text, [])), [])
 
     def test_a_process_that_is_killed_is_a_shortage(self):
-        # A thread that another test left would prevent `write` from splitting the work.
+        # If another test left a thread, `write` would not split the work.
         with patch("threading.active_count", return_value=1), self.assertRaisesRegex(Unchecked, "a process was killed"):
             list(made_side_by_side(killed, [(1,), (2,)]))
 
 
 class Knockout(unittest.TestCase):
     def seen(self, form, *goals_by_round):
-        """Returns what the first page shows of a competition of three players before each round and at the end: the pairs of the bracket, the players
-        that advanced, and the leader. Also returns the last page and the last match."""
+        """Returns what the first page shows of a competition of three players, before each round and at the end: the pairs of the bracket,
+        the players that advanced, and the leader. Also returns the last page and the last match."""
         folder = Folder(pathlib.Path(self.enterContext(tempfile.TemporaryDirectory())))
         players = [(name, f"h:{at}") for at, name in enumerate(("ann", "bob", "cid"), 1)]
         competition = read_competition(toml(players, [("one", "f", 'board = "hex"')], form).encode())

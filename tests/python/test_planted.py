@@ -1,10 +1,11 @@
 """An error in ground rules shows only in a match that reaches it. No earlier step does.
 
-Ten games of different kinds get an error each: a missing rule, two swapped moves, a goal that is off by one, or a rule without its last literal. In
-the game with a cycle, the cycle is unrolled in half of its rounds. The place of the error is random, and matches by the wrong rules are played until
-one of them reaches the error: under the right rules, the answers of this match give a different record. No random match needs that many rounds of a
-cycle, so in that game the test chooses the moves: red's stones wind from side to side. The referee plays and checks by the same wrong rules, so it
-cannot notice the error. `ggp-hold-against` must find the error, and must find no error in the record by the right rules."""
+Ten games of different kinds get an error each: a missing rule, two swapped moves, a goal that is off by one, or a rule without its last
+literal. In the game with a cycle, the cycle is unrolled in half of its rounds. The place of the error is random. Matches are played under
+the wrong rules until one of them reaches the error: under the right rules, its answers give a different record. No random match needs that
+many rounds of a cycle, so in that game the test chooses the moves: red's stones wind from side to side. The referee plays and checks under
+the same wrong rules, so it cannot notice the error. `ggp-hold-against` must find the error, and must find no error in the record under the
+right rules."""
 
 import functools
 import json
@@ -107,7 +108,7 @@ def wound(sentences: Sentences) -> Record:
 
 
 def reached(name: str, plant: Plant) -> tuple[Record, Record]:
-    """Returns the records of a match that reaches the error, by the wrong and by the right rules."""
+    """Returns the records of a match that reaches the error: one under the wrong rules, and one under the right rules."""
     for number in range(TRIES):
         record = played(plant(name, random.Random(f"{name} {number}")), number)
         right = played_again(right_rules(name), record)

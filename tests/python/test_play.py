@@ -219,8 +219,8 @@ class Play(InFolder):
         self.assertEqual(run(self.folder, "play")[0], 0)
 
     def checking(self):
-        """Plays a match. While the match is being checked, returns `play`, which has a separate process group, and the file that lets the check go
-        on."""
+        """Plays a match, and returns while it is being checked. Returns `play`, which has a separate process group, and the file that lets
+        the check continue."""
         self.planned(["good", "good"], form='kind = "schedule"\nlines = ["countdown p0 p1"]')
         number, go = self.folder / "number", self.folder / "go"
         waiting = program_but(self.folder / "waiting", '"$1" = replay', f"echo $$ > {number}.new; mv {number}.new {number}; until [ -e {go} ]; do sleep 0.1; done")
@@ -342,7 +342,7 @@ class Play(InFolder):
 
     def test_while_matches_are_played_no_other_run_plays_or_plans(self):
         self.planned(["slow", "slow"])
-        # The match goes on once the file `go` exists.
+        # The match continues when the file `go` exists.
         waiting = program_but(self.folder / "waiting", '"$1" = run', f"until [ -e {self.folder}/go ]; do sleep 0.05; done")
         playing = start(self.folder, "play", "--program", waiting)
         wait_until(self.open_matches)
@@ -380,7 +380,7 @@ class Play(InFolder):
         changes = [
             ("records/cup-001.json", lambda text: text.replace(b"(take 1)", b"(take 2)", 1), "not lawful"),
             ("records/cup-002.json", lambda text: text[:-20], "not one line"),
-            ("accounts/cup-003.txt", lambda text: text.replace(b"taken", b"over", 1), "is not a call that a referee makes there"),
+            ("accounts/cup-003.txt", lambda text: text.replace(b"taken", b"over", 1), "is not a call that a referee would make at this point"),
             ("accounts/cup-004.txt", None, "its call log is missing"),
             ("records/cup-005.json", lambda _: (self.folder / "records/cup-006.json").read_bytes(), "does not reproduce its record"),
         ]
@@ -447,7 +447,7 @@ class Play(InFolder):
         self.planned(["good", "good"])
         short = "echo 'ggp_manager: want of memory' >&2; exit 3"
         played = ("records/cup-001.json", "accounts/cup-001.txt", "logs/cup-001.jsonl")
-        # The condition excludes runs with an empty input, by which the plan asks only whether the rules are accepted.
+        # The condition excludes runs with an empty input. In such runs, the plan only asks whether the rules are accepted.
         record = '"$1" = verify && -n $(head -c 1)'
         shortages = [(record, short, "want of memory"), (record, "kill -9 $$", "signal 9"), ('"$1" = replay', short, "want of memory")]
         for (asked, done, words), ending in zip(shortages, ("unchecked", "unchecked.2", "unchecked.3")):
@@ -516,7 +516,7 @@ class Play(InFolder):
         said = playing.stderr.read()
         playing.stderr.close()
         self.assertEqual((playing.wait(60), said), (1, "ggp_competition: standard output: Broken pipe\n"))
-        # A match that begins while the first one is being checked is played to its end too.
+        # A match that begins while the first one is being checked is also played to its end.
         self.assertIn(len(self.records()), (2, 3, 4))
         self.assertEqual(list((self.folder / "open").iterdir()), [])
         self.assertEqual([(player.matches, player.aborted) for player in self.players], [({}, [])] * 4)

@@ -2,8 +2,9 @@
 
 import unittest
 from dataclasses import replace
+from unittest import mock
 
-from ggp_tools.competition.player_pages import MoveError, appearances_of
+from ggp_tools.competition.player_pages import MoveError, appearances_of, player_parts
 from ggp_tools.competition.plots import BARS, bar_of
 from ggp_tools.competition.results import result_of
 from ggp_tools.competition.schedule import Match
@@ -70,3 +71,18 @@ class Appearances(unittest.TestCase):
         three = replace(MATCH, players=("ann", "bob", "eve"))
         log = [*LOG, event_of(line(three, 2, 2, "(PLAY cup-001 NIL)", "x", 1).encode()), Open("cup-001", 1)]
         self.assertEqual(self.appearances(log=log), self.appearances())
+
+    def test_the_parts_of_a_page_are_about_the_matches_that_count_in_the_order_of_their_ends(self):
+        found = []
+        for name, end in (("cup-001", "3"), ("cup-002", "2"), ("cup-003", "1")):
+            said = record(*[[f"IL {name}", ""]] * 12)
+            match = replace(MATCH, id=name, again="cup-009" * (name == "cup-002"), reason="late")
+            found.append(self.appearances(said, [event_of(line(MATCH, 0, 2, "(PLAY cup-001 NIL)", "x", int(end)).encode())], end)[0])
+            found[-1] = replace(found[-1], result=result_of(said, match), start=10 * int(end))
+        with mock.patch("ggp_tools.competition.player_pages.part") as made:
+            player_parts("cup", "ann", "first", found)
+        parts = {call.args[0]: call.kwargs for call in made.call_args_list}
+        self.assertEqual(parts["player"]["left_out"], ["cup-002 does not count: cup-009 replaces it: late"])
+        self.assertEqual(parts["seats"]["rows"], [("nim", "x", ["2", "100.00", "24 of 24", "30 ms", "3 ms"])])
+        self.assertEqual([(match, error.turn) for match, error, _ in parts["errors"]["rows"]], [(name, turn) for name in ("cup-001", "cup-003") for turn in range(12, 2, -1)])
+        self.assertEqual(parts["errors"]["count"], 24)

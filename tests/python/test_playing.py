@@ -1,5 +1,5 @@
-"""How `play` handles many matches: which matches begin, what happens when they end, and the files before and after. The matches are fake, and follow
-the test's instructions."""
+"""How `play` handles many matches: which matches begin, what happens when they end, and the files before and after. The matches are fake,
+and follow the instructions of the test."""
 
 import asyncio
 import collections
@@ -143,7 +143,7 @@ class Going(WithMatches):
 
         self.begin(at_once=1)
         self.playing.watch = watch
-        # The last match ends after the results of the others were passed on.
+        # The last match ends after the results of the other matches have been passed on.
         self.go(cup_012=["playing", lambda match: again.wait(600), won])
         self.assertEqual((watched[0][0] > 0, {is_main for _, is_main in watched}, self.reporter.lines), (True, {False}, ["pages are not written"]))
 
@@ -179,8 +179,8 @@ class Going(WithMatches):
 
     def test_a_game_whose_rules_are_wrong_is_not_played_on(self):
         why = "heap is not played any more, because cup-001 does not follow its description"
-        # The second match was already open. In the first case it differs too, and the message about the game is not repeated. In the second case it
-        # has asked its players, but does not begin.
+        # The second match was already open. In the first case, it also differs, and the message about the game is not repeated. In the
+        # second case, it has asked its players, but does not begin.
         for end, left, lines in ((over(why="differs too", stops_game=True), "differs too", ["no record cup-003: differs too"]), (over(), why, [])):
             self.begin()
             games, once = self.plan.competition.games, iter([end])
@@ -191,7 +191,7 @@ class Going(WithMatches):
             lost = {match.id: why for match in self.plan.matches[:6]} | {"cup-001": "differs", "cup-003": left}
             self.assertEqual((self.playing.left, self.playing.stopped), (lost, {"heap": why}))
             self.assertEqual((set(self.playing.results), self.playing.may_begin(self.plan.matches[0])), ({match.id for match in self.plan.matches[6:]}, False))
-            stopped = "stopped heap, because cup-001 does not follow its description; 4 waiting matches of it will not begin"
+            stopped = "stopped heap, because cup-001 does not follow its description; 4 waiting matches of this game will not begin"
             self.assertEqual(self.reporter.lines, ["no record cup-001: differs", stopped, *lines])
 
     def test_if_a_file_can_not_be_written_no_more_matches_begin(self):
@@ -490,7 +490,8 @@ class Signals(WithMatches):
 # ---- the time left, compared with the actual time by a fake clock
 
 ROUND_ROBIN = 'kind = "round_robin"\nrounds = {}'
-# Players, form, the number of matches at a time for a player and in total, and for each game the minimum and maximum seconds of a match.
+# The players, the form, the number of matches at a time for a player and in total, and for each game the minimum and maximum seconds of a
+# match.
 SHAPES = {
     "one match at a time": (8, ROUND_ROBIN.format(5), 1, 4, {"one": (20, 40)}),
     "two at once": (8, ROUND_ROBIN.format(5), 1, 2, {"one": (20, 40)}),
@@ -503,7 +504,8 @@ SHAPES = {
 
 
 def estimated_and_true(players, form, concurrent, at_once, lengths):
-    """Plays a competition with a fake clock. Yields, as each match ends, the finished part, the estimated time left, and the actual one."""
+    """Plays a competition with a fake clock. Whenever a match ends, yields the part that is finished, the estimated time left, and the
+    actual time left."""
     who = [(f"p{number}", f"h:{number + 1}", f"concurrent = {concurrent}") for number in range(players)]
     competition = read_competition(toml(who, [(game, "f") for game in lengths], form).encode())
     matches, chance = planned(competition, dict.fromkeys(lengths, 2)), random.Random(1)

@@ -24,7 +24,8 @@ NO_GOAL = b"(role ann) (init (step 1)) (legal ann go) (<= (next (step 2)) (true 
 
 
 def desk_of(kept, changes=(), **answer):
-    """Returns a desk of the program that records the scripts, and changes some records by id, or gives this answer."""
+    """Returns a function that runs the desk of the program. It stores the scripts, changes some records by id, and replaces the values in
+    `answer`."""
 
     def desk(words, input, **more):
         kept.append((words, input.decode(), more))
@@ -130,7 +131,7 @@ class Matches(WithDesk):
 
         self.reporter.draw, self.now = later, 1.0
         found = self.play(RULES, 1, 9, seconds=50)
-        self.assertEqual(found.notes, [f"out of time: in 50 s there were {len(found.ended)} of 9 matches and {random_matches.counted(found.turns, 'turn')} of the next one"])
+        self.assertEqual(found.notes, [f"out of time: {len(found.ended)} of 9 matches and {random_matches.counted(found.turns, 'turn')} of the next one were played in 50 s"])
         self.assertEqual((self.drawn[:2], len(found.ended) > 0, self.kept[0][1].count("open")), (["match 1 of 9, 0 turns", "match 1 of 9, 1 turn"], True, 1))
         self.assertEqual(self.drawn[-1], "the program's desk")
         # The command continues until the second is over, and does not draw the line in its first half.

@@ -1,4 +1,5 @@
-"""Ratings, compared with closed forms, with slow computations by other methods, and with players of known strengths. Also cases without ratings."""
+"""Compares ratings with closed forms, with slow computations by other methods, and with players of known strengths. Also tests cases
+without ratings."""
 
 import math
 import random
@@ -151,7 +152,7 @@ class Ratings(unittest.TestCase):
                     inside, total = inside + (away <= found[name].half), total + 1
                     nearest.append(away)
         self.assertEqual(total, 800)
-        # About 760 of 800 intervals of 95% contain the strength; a group's ratings are not independent.
+        # About 760 of 800 intervals of 95% contain the strength. The number varies, because a group's ratings are not independent.
         self.assertGreater(inside, 736)
         self.assertLess(inside, 784)
         self.assertLess(sum(nearest) / total, 45)

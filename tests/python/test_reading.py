@@ -46,7 +46,7 @@ def nested(levels):
 
 
 class Levels(unittest.TestCase):
-    """64 nested lists are accepted, as by the referee, and 65 are refused."""
+    """64 nested lists are accepted, as in the referee, and 65 are refused."""
 
     def test_lists_in_one_another_in_a_text(self):
         self.assertEqual(term_of("(f " * 64 + "a" + ")" * 64), nested(64))
@@ -160,7 +160,7 @@ class Estimates(unittest.TestCase):
         self.assertEqual((self.answers("(way ?d ?x ?y)"), self.answers("(way ?d ?x ?y)", "?x"), self.answers("(way up ?x ?y)"), self.answers("(way up ?x ?y)", "?x")), (9, 4.5, 4.5, 2.25))
 
     def test_estimates_of_circles_and_of_nothing(self):
-        # Three edges, and for each one three ways that end there.
+        # There are three edges. For each edge, the estimate assumes three rows of w that end at its beginning.
         self.assertEqual(self.answers("(w ?x ?y)"), 3 + 3 * 3)
         few = Sizes(Relations(rules("(<= p (q a))")), 0, {})
         self.assertEqual([self.answers("(true ?t)", sizes=few), self.answers("(does ?r ?m)", sizes=few), few.answers(Asked(True, ("p", None), ()), set())], [3, 1, 1])

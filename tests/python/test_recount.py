@@ -1,4 +1,5 @@
-"""Hundreds of small competitions with random records: the package agrees with a simple independent computation (plain_competition.py)."""
+"""Compares the package with a simple independent computation (plain_competition.py), for hundreds of small competitions with random
+records."""
 
 import pathlib
 import random
@@ -20,7 +21,7 @@ MANY = 120
 
 
 def tables(*words):
-    """Returns the tables without ratings: these have separate tests."""
+    """Returns the tables without ratings, which have separate tests."""
     return tables_of(*words, is_rated=False)
 
 
@@ -140,7 +141,7 @@ class Rounds(unittest.TestCase):
             self.assertEqual([(of.player, of.points(), of.buchholz) for of in table.standings()], [(name, total[name], buchholz[name]) for name in order])
             self.assertEqual(table.ranks(), [1 + sum((total[other], buchholz[other]) > (total[name], buchholz[name]) for other in order) for name in order])
             meetings = Counter(frozenset(pair) for pairs, _ in said for pair in pairs)
-            # With enough players no pairing is repeated.
+            # If there are enough players, no pairing is repeated.
             again += sum(times > 1 for times in meetings.values()) if count >= 2 * rounds + 2 else 0
             byes = Counter(bye for _, bye in said if bye)
             self.assertEqual(sum(byes.values()), rounds * (count % 2))

@@ -1,4 +1,4 @@
-"""Calls of the referee, and how its answers are read. A fake referee gives answers as documented, and impossible ones."""
+"""Calls of the referee, and how its answers are read. A fake referee gives both documented and impossible answers."""
 
 import os
 import pathlib
@@ -49,7 +49,7 @@ class WithStandIn(InFolder):
         return (self.folder / f"words.{run}").read_text().splitlines(), (self.folder / f"input.{run}").read_bytes()
 
     def assert_unchecked(self, words: str, ask, *more) -> None:
-        """Sets an answer, and checks that it does not count as a verdict."""
+        """Sets an answer, and checks that the call treats it as a missing verdict."""
         self.begin_anew()
         self.answers(*more)
         self.assertEqual(str(raised(Unchecked, ask)), words)

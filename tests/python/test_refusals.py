@@ -40,7 +40,7 @@ def test_each_command_says_the_same(text: str, words: str | None, tmp_path: path
     with pytest.raises(Refused) as sorted_out:
         game_of(file)
     held = Holding(text, str(file)).held(json.dumps({}))[1]
-    # In the last description, the interpreter of ground rules looks up each atomic sentence by itself, and reports a different sentence.
+    # The interpreter of ground rules evaluates each atomic sentence of the last description separately, so it reports a different sentence.
     if words:
         assert (str(sorted_out.value), held) == (words, f"not followed: {file}: {words}")
     assert held.startswith(f"not followed: {file}: line ")

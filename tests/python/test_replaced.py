@@ -30,7 +30,7 @@ class Moments(unittest.TestCase):
         turns = [(("a", "b"), ("", "TO")), (("c", "d"), ("lost", "")), (("e", "f"), ("IL x", "RT"))]
         moves = [("bob", 1, "TO", "b", 5.0, 0), ("ann", 3, "IL x", "e", 9.0, 1), ("bob", 3, "RT", "f", 9.0, 2)]
         self.assertEqual(replaced_moves(MATCH, turns, {1: 5.0}, 9.0), [Replaced(MATCH, *move) for move in moves])
-        # Only the last replaced moves are returned, and the first of these has the number of the earlier ones.
+        # Only the last replaced moves are returned. The number in the first of these counts the earlier ones.
         self.assertEqual([(move.turn, move.before) for move in replaced_moves(MATCH, turns * 2, {}, 9.0)], [(4, 3), (6, 4), (6, 5)])
 
 

@@ -6,6 +6,7 @@ import pathlib
 import tempfile
 import unittest
 from collections import Counter
+from dataclasses import replace
 from unittest import mock
 
 from ggp_tools.competition.competition_file import read_competition
@@ -16,7 +17,8 @@ from ggp_tools.competition.match_files import Check, unverified_result
 from ggp_tools.competition.pages import Site
 from ggp_tools.competition.plan import grows, make_plan, order_again, plan_next_round, read_plan, refuse_lost_results, round_words, rounds_left, sums_text
 from ggp_tools.competition.round_pages import count_of_all, round_text, rounds_part, rounds_words
-from ggp_tools.competition.rounds import Round, bracket, matches_to_come, paired, rounds_of
+from ggp_tools.competition.results import result_of
+from ggp_tools.competition.rounds import Round, bracket, matches_to_come, paired, rounds_of, scores_of
 from ggp_tools.competition.schedule import Match
 from ggp_tools.competition.table import tables_of
 from ggp_tools.competition.table_text import notes, standings_rows, table_files
@@ -57,11 +59,11 @@ class ByRounds(unittest.TestCase):
     def read(self):
         return read_plan(self.folder.path, REFEREE)
 
-    def play(self, plan, goals_of=lambda match: [100, 0] if match.players < match.players[::-1] else [0, 100]):
-        """Writes records of all matches that have none. The player with the lower number wins by default."""
+    def play(self, plan, goals_of=lambda match: [100, 0] if match.players < match.players[::-1] else [0, 100], errors_of=lambda _: ["", ""]):
+        """Writes records of all matches that have none, with these errors in the only turn. The player with the lower number wins by default."""
         for match in plan.matches:
             if not self.folder.record(match.id).exists() and match.counts():
-                self.folder.record(match.id).write_text(json.dumps(record(match, goals_of(match))) + "\n")
+                self.folder.record(match.id).write_text(json.dumps(record(match, goals_of(match), errors=[errors_of(match)])) + "\n")
                 self.folder.account(match.id).write_text(f"0\topen {match.id} 0 1 1\topened\n")
         return {match.id: found for match in plan.matches if (found := unverified_result(self.folder, plan.competition, plan.rules, match))}
 
@@ -79,7 +81,7 @@ class ByRounds(unittest.TestCase):
         self.assertEqual((rounds_left(plan), plan_next_round(plan, {})), (2, []))
         results = self.play(plan)
         plan_next_round(plan, results)
-        # p0, p2 and p4 have two points; the bye has no opponent whose points would count.
+        # p0, p2 and p4 have two points. A bye has no opponent whose points would count.
         self.assertEqual(round_words(plan), "round 2 of 3: cup-005 to cup-008; bye: p3")
         self.assertEqual(self.pairs(plan)[1], ((("p0", "p2"), ("p4", "p1")), ("p3",)))
         self.assertEqual((self.read().matches, self.pairs(self.read())), (plan.matches, self.pairs(plan)))
@@ -103,10 +105,10 @@ class ByRounds(unittest.TestCase):
         self.write(6, 'kind = "knockout"')
         plan = self.make()
         self.assertEqual(self.pairs(plan), [((("p3", "p4"), ("p2", "p5")), ("p0", "p1"))])
-        # All draws: the better seed advances.
+        # If all matches are drawn, the better seed advances.
         plan_next_round(plan, self.play(plan, lambda _: [50, 50]))
         self.assertEqual(self.pairs(plan)[1], ((("p0", "p3"), ("p1", "p2")), ()))
-        # One win each: the goals decide.
+        # Each has one win, so the goals decide.
         plan_next_round(plan, self.play(plan, lambda match: [40, 0] if match.players[0] in ("p0", "p1") else [60, 0]))
         self.assertEqual(self.pairs(plan)[2], ((("p3", "p2"),), ()))
         results = self.play(plan, lambda match: [100, 0] if match.players[0] == "p2" else [0, 100])
@@ -115,6 +117,23 @@ class ByRounds(unittest.TestCase):
         heads, *rows = standings_rows(table)
         self.assertEqual(heads[3], "rounds won")
         self.assertEqual([(row[0], row[1], row[3]) for row in rows], [("1", "p2", "3"), ("2", "p3", "2"), ("3", "p0", "1"), ("3", "p1", "1"), ("5", "p4", "0"), ("5", "p5", "0")])
+
+    def test_a_final_from_the_rounds_before_it_to_its_table(self):
+        self.write(5, f"{SWISS.format(2)}\nfinal = 4")
+        plan = self.make()
+        for _ in range(2):
+            results = self.play(plan, lambda match: [0, 100] if match.players < match.players[::-1] else [100, 0])
+            _ = plan_next_round(plan, results) if len(plan.rounds) == 1 else None
+        # By hand: p3 and p4 have 4 points, p1 and p2 have 2, p0 has none. p3 has met p1 and p2. p4 withdraws, so p0 takes its place.
+        plan = self.withdraw(4)
+        plan_next_round(plan, results)
+        self.assertEqual((self.pairs(plan)[2], rounds_left(plan)), (((("p3", "p0"), ("p1", "p2")), ()), 1))
+        plan_next_round(plan, self.play(plan))
+        self.assertEqual(self.pairs(plan)[3], ((("p0", "p1"),), ()))
+        results = self.play(plan)
+        rows = [[row[1], *row[3:6]] for row in standings_rows(tables_of(plan.competition, list(results.values()), plan.rounds)[0])]
+        wanted = [["p0", "2", "0", "6"], ["p1", "1", "2", "4"], ["p3", "0", "4", "4"], ["p2", "0", "2", "4"], ["p4", "-", "4", "0"]]
+        self.assertEqual(rows, [["player", "rounds won", "points", "Buchholz"], *wanted])
 
     def test_what_the_pages_say_of_rounds(self):
         for form, wanted in (('kind = "knockout"', ["0 of 6 ", "Round 1 of 2; 2 matches"]), (SWISS.format(3), ["0 of 12 ", "Round 1 of 3; 8 matches"])):
@@ -136,6 +155,10 @@ class ByRounds(unittest.TestCase):
         self.assertEqual((count_of_all(plan), rounds_words(plan)), (10, " Round 3 of 3."))
 
     def test_a_schedule_that_does_not_follow_from_the_records(self):
+        self.write(2, 'kind = "round_robin"')
+        self.make()
+        self.folder.schedule.write_text(self.folder.schedule.read_text() + "cup-003\tgame\t10\t10\tp0 p1\n")
+        self.assert_refused("schedule.tsv does not agree with")
         self.write(4, SWISS.format(3))
         plan = self.make()
         plan_next_round(plan, self.play(plan))
@@ -147,7 +170,7 @@ class ByRounds(unittest.TestCase):
         self.read()
         first = self.folder.record("cup-001")
         before = first.read_text()
-        # Now p1 has won against p0, so the order changes.
+        # Now p1 has beaten p0, so the order changes.
         for number in (1, 3):
             self.folder.record(f"cup-00{number}").write_text(json.dumps(record(plan.matches[number - 1], [0, 100] if number == 1 else [100, 0])) + "\n")
         self.assert_refused("schedule.tsv does not agree with")
@@ -233,6 +256,31 @@ class ByRounds(unittest.TestCase):
         results = self.play(plan)
         table = tables_of(plan.competition, list(results.values()), plan.rounds)[0]
         self.assertEqual([(line.player, line.rounds_won) for line in table.standings()], [("p0", 2), ("p1", 1), ("p2", 0), ("p3", 0)])
+
+    def test_a_player_that_is_absent_in_whole_rounds_is_withdrawn(self):
+        for most, rounds, results, words in (
+            # p3 wins against p2, but these matches are void, so p1 is the last of the other players.
+            (1, (2,), "void", "round 2 of 5: cup-005 to cup-006; bye: p1; withdrawn: p3 (absent in 1 whole round)"),
+            # In round 2, p3 is absent in only one of its two matches.
+            (2, (2, 1, 2), "keep", "round 4 of 5: cup-013 to cup-014; bye: p2; withdrawn: p3 (absent in 2 whole rounds)"),
+        ):
+            self.setUp()
+            self.write(4, SWISS.format(5), f'absent_rounds = {most}\nwithdrawn_results = "{results}"')
+            plan = self.make()
+            for count in rounds:
+                self.assertFalse(plan.rounds[-1].absent)
+                found = self.play(
+                    plan, lambda match: [100, 0] if "p3" in match.players[0] else [0, 100], lambda match: ["TO" * (match.players[at] == "p3" and at >= 2 - count) for at in (0, 1)],
+                )
+                self.assertEqual(self.read().rounds, plan.rounds)
+                plan_next_round(plan, found)
+            self.assertEqual((round_words(plan), self.read().rounds), (words, plan.rounds))
+            plan_next_round(plan, self.play(plan))
+            self.assertEqual((len(plan.rounds), plan.rounds[-1].absent), (len(rounds) + 2, ()))
+        self.setUp()
+        self.write(2, SWISS.format(3), "absent_rounds = 1")
+        self.play(self.make(), errors_of=lambda match: ["TO" * (player == "p1") for player in match.players])
+        self.assertEqual(self.pairs(self.read())[1:], [((), ("p0",))] * 2)
 
     def test_a_last_round_without_an_opponent_is_a_bye(self):
         for form, rounds in (('kind = "knockout"', 2), (SWISS.format(3), 3)):
@@ -329,13 +377,32 @@ class ByRounds(unittest.TestCase):
             self.assertEqual([match.id for match in plan_next_round(plan, results)], ["cup-006", "cup-007", "cup-008", "cup-009"])
             refuse_lost_results(plan, results)
             self.assertEqual(self.read().matches, plan.matches)
-            self.assert_refused("cup-002 can't be played again: it is in round 1, and the next round was paired by the results of that round", lambda: order_again(self.folder.path, REFEREE, "cup-002", "x"))
+            late = "cup-002 can't be played again: it is in round 1, and the next round was paired by the results of that round"
+            self.assert_refused(late, lambda: order_again(self.folder.path, REFEREE, "cup-002", "x"))
+            self.folder.again.write_bytes(self.folder.again.read_bytes() + again_text((Again("cup-010", "cup-002", "x"),)).splitlines(True)[1])
+            self.assert_refused(late)
+
+    def test_the_seeds_are_those_of_the_other_table_until_a_match_is_played(self):
+        self.write(2, 'kind = "knockout"', 'seeds = "other.csv"')
+        for first, last, pair in (("p1", "p0", ("p1", "p0")), ("p0", "p1", ("p0", "p1")), ("p1", "p0", ("p0", "p1"))):
+            (self.folder.path / "other.csv").write_text(f"game,player\nall games,{first}\nall games,{last}\n")
+            plan = self.make()
+            self.assertEqual((plan.matches[0].players, self.read().matches), (pair, plan.matches))
+            _ = self.play(plan) if first == "p0" else None
+
+    def test_the_schedule_is_written_last(self):
+        self.write(2, SWISS.format(2), 'ids = "random"')
+        with mock.patch("ggp_tools.competition.plan.write_whole") as written:
+            self.make()
+        # An interrupted `plan` leaves no checksums without the rules, and no schedule without any of the others.
+        self.assertEqual([call.args[0].name for call in written.call_args_list], ["ids.key", "game.kif", "DESCRIPTIONS.sha256", "SHA256SUMS", "planned.toml", "schedule.tsv"])
 
     def test_ids_that_nobody_guesses(self):
         self.write(4, SWISS.format(2), 'ids = "random"')
         plan = self.make()
         ids, key = [match.id for match in plan.matches], self.folder.key.read_bytes()
         self.assertEqual((len(set(ids)), [found[:8] for found in ids]), (4, [f"cup-00{at}-" for at in range(1, 5)]))
+        self.assertEqual(self.folder.key.stat().st_mode & 0o77, 0)
         for found in ids:
             self.assertRegex(found, r"\Acup-00\d-[a-z2-7]{12}\Z")
         # With the same key, the ids stay the same if the schedule is lost, if it grows, or if a match is played again.
@@ -390,6 +457,8 @@ class Refusals(unittest.TestCase):
             ("abcdef", "ac cd ce cf ef", "ae fd bc"),
             # g and h swap with c and d. Then e and f could swap with the next pair below, but they swap with a pair far above.
             ("abcdefgh", "ce ef eg eh gh", "ae cg bf dh"),
+            # b and d come down, so e and f could swap with two pairs below. They swap with the nearer one.
+            ("abcdefghij", "ae ce cg ef eg eh ei ej gh gi gj ij", "ag ci hf be dj"),
         ):
             found = paired(order, Counter(map(frozenset, met.split())))
             self.assertEqual(" ".join(map("".join, found)), wanted)
@@ -399,13 +468,28 @@ class Refusals(unittest.TestCase):
 
     def test_how_many_rounds_and_matches_are_to_come(self):
         players, games = [(f"p{at}", f"h:{at + 1}") for at in range(7)], [("one", "f"), ("two", "f")]
-        first = [Round(1, (("p0", "p1"), ("p2", "p3"), ("p4", "p5")), ("p6",))]
+        first = Round(1, (("p0", "p1"), ("p2", "p3"), ("p4", "p5")), ("p6",))
+        absent, final = replace(first, absent=(("p5", "x"), ("p6", "x"))), f"{SWISS}\nfinal = {{}}"
         # With 7 players and 2 games: 3 pairings of 4 matches in each of 4 further rounds; in a knockout 6 pairings in all.
-        for form, rounds, left in ((SWISS.format(5), 5, 48), ('kind = "knockout"', 3, 12), ('kind = "round_robin"', 0, None)):
-            found = read_competition(toml(players, games, form).encode())
-            self.assertEqual(rounds_of(found), rounds)
-            if left is not None:
-                self.assertEqual(matches_to_come(found, first), left)
+        for form, found, rounds, left in (
+            (SWISS.format(5), [first], 5, 48), (SWISS.format(5), [absent], 5, 32), (final.format(5, 4), [first], 7, 60), (final.format(1, 2), [first], 2, 4),
+            (final.format(1, 4), [first, Round(2, first.pairs[:2], ())], 3, 4), ('kind = "knockout"', [first], 3, 12), ('kind = "round_robin"', [], 0, None),
+        ):
+            competition = read_competition(toml(players, games, form).encode())
+            self.assertEqual(rounds_of(competition), rounds, form)
+            self.assertEqual(left and matches_to_come(competition, found), left, form)
+
+    def test_matches_that_a_player_has_left_out_count_as_byes_of_its_opponents(self):
+        rounds = [Round(1, (("p0", "p3"), ("p1", "p2")), ())]
+        record = {"goalValues": [100, 0], "moves": [[]], "errors": [["", ""]], "strikes": 0, "phase": "finished", "cause": None}
+        results = [result_of(record, Match("cup-1", "one", 1, 1, pair, 1)) for pair in rounds[0].pairs]
+        # One match of each pair is over. p3 has withdrawn, so only the other match of p0 is a bye, or both are if the first one is void.
+        for kind, points, byes, opponents in (("keep", [2, 1, 0, 0], [0] * 4, ["p3", "p2", "p1", "p0"]), ("void", [2, 1, 0, 0], [1, 0, 0, 0], ["", "p2", "p1", ""])):
+            players = [(f"p{at}", f"h:{at + 1}", *["withdrawn = true"] * (at == 3)) for at in range(4)]
+            found = read_competition(toml(players, [("one", "f")], SWISS.format(2), f'withdrawn_results = "{kind}"').encode())
+            scores = scores_of(found, rounds, results)
+            self.assertEqual([[of[f"p{at}"] for at in range(4)] for of in (scores.points, scores.byes)], [points, byes], kind)
+            self.assertEqual(["".join(scores.opponents[f"p{at}"]) for at in range(4)], opponents, kind)
 
     def test_sums_of_what_was_planned_stay(self):
         first, other = "0" * 64, "1" * 64

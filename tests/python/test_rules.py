@@ -1,5 +1,5 @@
-"""The rules of a competition, each from the first command to an archive. `check` accepts the archive, and refuses a corrupted copy with matching
-checksums."""
+"""Tests the rules of a competition one by one, from the first command to an archive. `check` accepts the archive, and refuses a corrupted
+copy with matching checksums."""
 
 import json
 import re
@@ -43,7 +43,7 @@ class Rules(InArchive):
         self.write(players, [("two", "two.kif"), ("three", "three.kif")], head=f"{HEAD}strikes = 2\nforfeit = true\nfaults = {{replaced = 2}}\n")
         self.ran("plan")
         ends = [line for line in self.ran("play") if line.startswith("end")]
-        # No two turns in a row give this player a choice, so it is never retired.
+        # This player never has a choice in two consecutive turns, so it is never retired.
         self.assertTrue(any("two" in line and "cid (IL in 2 of turns 2 to 4), counts as " in line for line in ends), ends)
         self.assertIn("forfeit: cid (IL in 2 of turns 2 to 4), counts as bob 100, cid 0", self.ran("why", ".", "cup-002", "cid"))
         table = json.loads((self.ran("table") and (self.folder / "table.json").read_text()))
@@ -81,6 +81,8 @@ class Rules(InArchive):
         self.assertEqual(([lines[name]["matches"] for name in ("ann", "bob", "cid")], notes[0]), ([6, 6, 4], "cid has withdrawn: its disk is full; the matches that it has played count"))
         self.ran("publish")
         self.assertIn("8 records and call logs", self.ran("check", "cup.tar.gz")[0])
+        # The matches that are not played are not gaps.
+        self.assertNotIn("cup/GAPS.tsv", files_of(self.folder / "cup.tar.gz"))
         void = changed("cup/competition.toml", lambda text: b'withdrawn_results = "void"\n' + text)
         assert_spoilt(self, files_of(self.folder / "cup.tar.gz"), {
             "it has not withdrawn": (changed("cup/competition.toml", lambda text: text.replace(b"withdrawn = ", b"# ")), "earlier/12.toml asks for the same matches"),

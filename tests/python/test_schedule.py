@@ -8,7 +8,7 @@ from collections import Counter
 
 from ggp_tools.competition.command import counts_of_game
 from ggp_tools.competition.competition_file import Mistaken, read_competition
-from ggp_tools.competition.schedule import MOST_MATCHES, circle_steps, refuse_too_many, schedule_text
+from ggp_tools.competition.schedule import MOST_MATCHES, circle_steps, id_in, matches_in, refuse_too_many, schedule_text
 from planning import planned
 from support import raised, toml
 
@@ -67,7 +67,8 @@ class Schedule(unittest.TestCase):
             for count in range(roles, 17):
                 for rounds in (1, 2):
                     found = matches(count, roles, f'kind = "round_robin"\nrounds = {rounds}')
-                    # The number of blocks of matches in which every two players would meet once, if the matches could be distributed evenly.
+                    # How many blocks of matches would be needed if every two players met once. This assumes that the matches can be
+                    # distributed evenly.
                     blocks = math.ceil(2 * (count - 1) / (roles * (roles - 1)))
                     self.assertEqual(len(found), count * blocks * rounds, (roles, count))
                     met = meetings(found)
@@ -140,6 +141,13 @@ class Schedule(unittest.TestCase):
         for count, first, last in ((2, "cup-001", "cup-002"), (999, "cup-001", "cup-999"), (1_000, "cup-0001", "cup-1000")):
             found = matches(count, 1)
             self.assertEqual((found[0].id, found[-1].id, len(found)), (first, last, count))
+
+    def test_which_rows_of_a_schedule_are_matches(self):
+        competition = read_competition(toml([("p0", "h:1"), ("p1", "h:2")], [("g0", "f", "start = 3")]).encode())
+        found = planned(competition, {"g0": 2})
+        text = schedule_text(found) + b"cup-003\tg1\t3\t10\tp0 p1\ncup-004\tg0\t3\t10\tp0 p2\ncup-005\tg0\t3\tp0 p1\n\x1b\n"
+        self.assertEqual(matches_in(text, competition), found)
+        self.assertEqual(list(map(id_in, text.splitlines())), [None, *(f"cup-00{at}" for at in range(1, 5)), None, None])
 
     def test_numbers_that_do_not_fit(self):
         self.assertEqual([(mistake.key, mistake.words) for mistake in raised(Mistaken, matches, 2, 3, games=2).mistakes],

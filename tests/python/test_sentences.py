@@ -1,4 +1,4 @@
-"""Parsing of sentences: the ways in which they can hold, and refusals with the sentence and the reason."""
+"""Parsing of sentences: the ways to satisfy them, and refusals with the sentence and the reason."""
 
 import unittest
 
@@ -22,7 +22,7 @@ class Ways(unittest.TestCase):
         self.assertEqual((each_of([]), each_of([[("a",)], []])), ([()], []))
 
     def test_ten_thousand_ways_are_taken_and_no_more(self):
-        # Ten thousand are four times ten.
+        # Four lists of ten give ten thousand ways.
         ten = [(str(at),) for at in range(10)]
         self.assertEqual(len(each_of([ten] * 4)), 10_000)
         for many in ([ten, ten, ten, [("x",)] * 11], [[("x",)] * 73, [("x",)] * 137]):

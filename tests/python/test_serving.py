@@ -46,7 +46,8 @@ class Served(unittest.TestCase):
     NAMES = ORIGINS = ()
 
     def setUp(self):
-        # On a busy computer, reading the records and asking the referee may take a long time, for which the tests neither wait nor fail.
+        # On a busy computer, reading the records and asking the referee may take long. The tests neither wait for this nor fail because of
+        # it.
         self.enterContext(patch.object(live, "clock", lambda: 1_000.0))
         for name, value in (("SHARE", 0), ("REFEREE_SHARE", 0), ("READING", 1e9)):
             self.enterContext(patch.object(live, name, value))
@@ -70,7 +71,7 @@ class Served(unittest.TestCase):
         self.server.end()
 
     def in_loop(self, function, *values):
-        """Calls a function in the event loop of the server, and returns its result, or that of its coroutine."""
+        """Calls a function in the event loop of the server. Returns its result or, if that is a coroutine, the coroutine's result."""
 
         async def called():
             found = function(*values)
@@ -143,7 +144,7 @@ class Pages(Served):
         self.assertEqual((rows_of(parsed(own).find(id="turns")), text_of(turn.select_one(".idle"))), ([["1", "(take 2)", "noop"]], "noop"))
         self.say(log, self.play(match, 3, "((take 2) noop)", [SILENT]))
         self.assertNotIn("no answer came in time", self.page("/"))
-        # Once half of the clock is over the page names who is awaited.
+        # In the second half of the clock, the page names the players that are awaited.
         self.site.reader.open[match.id].began -= 1_000
         self.look()
         now = parsed(self.page(f"/matches/{match.id}.html")).find(id="now")
@@ -405,7 +406,7 @@ class Pages(Served):
         self.assertIn("It was given up: its files: x.", self.page(f"/matches/{lost.id}.html"))
         self.assertIn("It has not begun.", self.page(f"/matches/{again.id}.html"))
         # The waiting matches of a game with wrong rules will not begin.
-        lines.append(f"stopped {lost.game}, because {lost.id} does not follow its description; 5 waiting matches of it will not begin")
+        lines.append(f"stopped {lost.game}, because {lost.id} does not follow its description; 5 waiting matches of this game will not begin")
         self.write_journal(lines)
         self.look()
         self.assertIn("0 matches are open, 0 are waiting, 6 were given up", self.page("/"))
@@ -462,6 +463,25 @@ class Pages(Served):
         self.assertIn("bob was restarted once", self.page("/"))
         self.assertNotIn("ann was restarted", self.page("/"))
 
+    def test_an_open_match_that_no_plan_has_may_be_that_of_any_player(self):
+        """While a new plan cannot be read, nothing is shown that a silent or dead player in an open turn of its matches would explain."""
+        players = tuple(dataclasses.replace(player, command=Mock(restart=WHEN_DEAD)) for player in self.plan.competition.players)
+        self.plan.competition = dataclasses.replace(self.plan.competition, players=players)
+        unknown, asking, given_up, other = self.plan.matches[:4]
+        self.plan.matches = self.plan.matches[1:]
+        self.site = self.server.site = LiveSite(self.plan, Referee(program()), lambda: self.plan)
+        log = begin(self.plan, unknown)
+        (self.plan.folder.open / asking.id).mkdir()
+        (self.plan.folder.open / asking.id / "asking").touch()
+        self.write_journal([f"no record {given_up.id}: ann is silent", f"restart {other.id} bob: process 7, port 8"])
+        shown = []
+        for _ in range(2):
+            self.look()
+            first = self.page("/")
+            shown.append([text in first for text in ("1 match is open", "ann is silent", "bob was restarted")])
+            shutil.rmtree(log.parent, ignore_errors=True)
+        self.assertEqual(shown, [[False] * 3, [True] * 3])
+
     def test_a_turn_that_was_broken_off_counts_as_open(self):
         """The match may begin again, and then the players do not know yet who was dead."""
         match, other = self.plan.matches[:2]
@@ -479,7 +499,7 @@ class Pages(Served):
             self.assertEqual("ann was restarted" in self.page("/"), left in rows)
 
     def test_a_silent_player_is_named_once_that_says_nothing_of_a_turn(self):
-        """A player that may play several matches at once may be silent both in an open turn and to the INFO of another match."""
+        """A player that may play several matches at once may be silent in an open turn, and also not answer the INFO of another match."""
         match, other = [match for match in self.plan.matches if "ann" in match.players][:2]
         log = begin(self.plan, match, started(match) + self.play(match, 2, "NIL", ["(take 1)", "noop"]))
         (self.plan.folder.open / other.id).mkdir()
@@ -547,7 +567,7 @@ class Delayed(Served):
         log = begin(self.plan, match, started(match, time_of_day) + self.play(match, 2, "NIL", ["(take 2)", "noop"], time_of_day))
         self.assertEqual(self.look_at(1), ("0 matches are open", "0 of 6"))
         self.assertEqual(self.look_at(58), ("0 matches are open", "0 of 6"))
-        # The match is over before the pages show anything of it.
+        # The match is over before the pages show any part of it.
         lines = self.play(match, 3, "((take 2) noop)", ["noop", "(take 1)"], time_of_day)
         end(self.plan, match, record_of(match, [["(take 2)", "noop"], ["noop", "(take 1)"]], [["", ""]] * 2, [0, 100]), log.read_text() + lines)
         moment = self.moment if time_of_day is None else time_of_day / 1_000
@@ -598,7 +618,7 @@ class Delayed(Served):
             plans.append(dataclasses.replace(self.plan))
             self.site.read_plan = lambda: plans[-1]
             self.plan.folder.schedule.write_text("x" * at)
-            # The file's modification time does not matter.
+            # The modification time of the file does not matter.
             os.utime(self.plan.folder.schedule, (at, at))
             self.site.update()
             self.assertIs(self.site.plan, self.plan if at < 2 else plans[at - 2])

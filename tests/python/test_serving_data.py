@@ -1,5 +1,5 @@
-"""Data of `serve` for other programs: JSON, events and numbers. Other sites may embed the pages only if the host allows this, with and without a
-proxy."""
+"""Data of `serve` for other programs: JSON, events and numbers. Other sites may embed the pages only if the host allows it. All this is
+tested with and without a proxy."""
 
 import dataclasses
 import errno

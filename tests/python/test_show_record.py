@@ -1,5 +1,5 @@
-"""The pages of ggp-show-record: they show each turn, state, move and mark of the record, all text as text. A browser loads and runs nothing but the
-page's own script. The command refuses other files, and prints the reason."""
+"""The pages of ggp-show-record. They show each turn, state, move and mark of the record, and show all text as text. A browser loads
+nothing, and runs only the page's own script. The command refuses other files, and prints the reason."""
 
 import copy
 import json
@@ -34,7 +34,7 @@ FORMS = [
     (["(piece white 1 1)", "(piece black 2 2)"], 1),
     (["(at red 1 1)", "(at blue 2 2)", "(wall 1 1)", "(wall 1 2)", "(wall 2 2)"], 1),
     (["(peg 1 1)", "(peg 1 2)", "(peg 2 2)"], 1),
-    # Only one number or letter: no places.
+    # Only one number or letter, so these are not places.
     (["(heap 1 3)", "(heap 2 5)"], 0),
     (["(on 1 a)", "(on 2 a)"], 0),
     (["(step 0 1 1)"], 0),
@@ -81,7 +81,7 @@ def parts_of(record: dict) -> tuple[dict, dict]:
     shown = parsed(page)
     moves, errors, roles, players = texts_of(record)
     players_rows = rows_of_text(shown.select("table.players td"), 7)
-    # A term is either on a board or in the list: no term is in both, or in neither.
+    # Each term is either on a board or in the list, but not in both.
     on_boards = sum(bool(cell.text) or cell.has_attr("title") for cell in shown("i")) + len(shown("br"))
     found = {
         "turns": len(shown.select("tr.turn")),

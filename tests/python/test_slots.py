@@ -52,7 +52,7 @@ class Queue(unittest.TestCase):
 
 
 class Moments(unittest.TestCase):
-    """The tests give the times: a player that does not answer at 100 s rests for 5 s."""
+    """Tests with given times: a player that does not answer at 100 s rests for 5 s."""
 
     def setUp(self):
         players = [(name, f"h:{at + 1}", "concurrent = 2") for at, name in enumerate(("ann", "bob", "cid"))]
@@ -73,7 +73,7 @@ class Moments(unittest.TestCase):
 
     def test_tries_in_a_row(self):
         tries = [self.missed("ann", seated, now) for seated, now in ((99, 100), (100, 101), (50, 101), (101, 102), (102, 103), (103, 104))]
-        # A match that took its slots before a try ended, or at that moment, was part of this try.
+        # A match that took its slots before a try ended, or at the same moment, belongs to this try.
         self.assertEqual(tries, [True, True, True, True, True, False])
         self.assertEqual((self.slots.failed["ann"], self.slots.rests_until["ann"]), (3, 104))
         self.slots.count_answer("ann")

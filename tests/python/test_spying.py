@@ -40,7 +40,7 @@ NAMES = ["ann", "bob", "cid"]
 
 
 def rules_of(roles: tuple[str, ...]) -> bytes:
-    """Returns a game in which all roles say something at once, which the state then shows."""
+    """Returns a game in which all roles say something at once. The next state shows what they said."""
     legal = "".join(f"(legal {role} (say zq{turn}x{at}))" for at, role in enumerate(roles) for turn in range(1, 20))
     said = "".join(f"(role {role}) (<= (next (said {role})) (does {role} (say zq1x0))) (goal {role} 50)" for role in roles)
     return f"(init (step 1)) {said} {legal}".encode()
@@ -72,7 +72,7 @@ class Spying(Served):
 
     def assert_nothing_is_shown_before_the_last(self, lines):
         """Writes these answers of a round to the log one by one. Returns all pages after the last one."""
-        # `serve` draws a board only once somebody has opened its page.
+        # `serve` draws a board only after somebody has opened its page.
         self.all_pages()
         self.site.update()
         before = self.all_pages()
@@ -82,7 +82,7 @@ class Spying(Served):
             self.assertEqual(self.all_pages(), before, text)
         self.say(self.log, lines[-1])
         after = self.all_pages()
-        # The first event of a page is the end of the round: an open page has the same data as a new one.
+        # The first event of a page is the end of the round. An open page has the same data as a new one.
         for answer, path in zip(events, ("/", f"/matches/{self.match.id}.html")):
             self.assertNotEqual(after[path], before[path])
             told = str(self.next_event(answer))
@@ -123,9 +123,9 @@ class Spying(Served):
 
 @dataclass(frozen=True)
 class Step:
-    """A step of a match: a role answers, and events follow until the next step. `text` is the line that the log gets for the answer, or empty if the
-    line is lost. `needed` is the number of answers to the round. The events are: time passes, `serve` restarts, or the directory is read, with or
-    without questions to the referee."""
+    """A step of a match: a role answers, and events follow until the next step. `text` is the line that the log gets for the answer. If the
+    line is lost, `text` is empty. `needed` is the number of answers that the round needs. The events are: time passes, `serve` restarts, or
+    the directory is read, with or without questions to the referee."""
 
     run: int
     round: int
@@ -143,7 +143,7 @@ TIMES = st.sampled_from((None, 0, 1_000, 1_795_000_000_000, 9_000_000_000_000))
 
 @st.composite
 def steps(draw, match, strikes):
-    """Yields the steps of a match that may be aborted within a turn, and begin again. Its roles answer in any order."""
+    """Yields the steps of a match. The match may be aborted within a turn, and may begin again. Its roles answer in any order."""
     found, number = [], itertools.count()
     for run in range(draw(st.integers(1, 2))):
         rounds = [(1, [line_of(Host(match.id, "h")).decode()])] if run and draw(st.booleans()) else []
@@ -158,7 +158,7 @@ def steps(draw, match, strikes):
 
 @st.composite
 def rounds_of(draw, match, strikes):
-    """Yields the rounds of a run: how many roles answer, and the lines of those that do, in order."""
+    """Yields the rounds of a run: the number of roles that must answer, and the lines of the roles that do, in order."""
     roles, missed = range(len(match.players)), Counter()
 
     def said(number, message, role, answer):
@@ -246,7 +246,8 @@ class Watched:
 
 
 class Whatever(InFolder):
-    """Two sites that differ only in unfinished rounds: the log of one lacks these answers, and its journal lacks the restart of a dead player."""
+    """Compares two sites that differ only in unfinished rounds: the log of one site lacks these answers, and its journal lacks the restart
+    of a dead player."""
 
     @settings(max_examples=40)
     @given(st.data(), st.integers(2, 3), st.sampled_from((0, 2)), st.sampled_from((0, 0, 5.5)), st.sampled_from((1 << 20, 1 << 20, 700)))
@@ -256,7 +257,7 @@ class Whatever(InFolder):
         self.moment, self.ticks = 1_000_000.0, itertools.count()
 
         def clock():
-            """Time passes even while the directory is read."""
+            """Returns a time that advances even while the directory is read."""
             return self.moment + next(self.ticks) * 1e-6
 
         with contextlib.ExitStack() as patches:

@@ -1,4 +1,4 @@
-"""Players that the competition starts: their arguments, how they end, and that none of their processes is left."""
+"""Players that the competition starts: their arguments, how they end, and whether all of their processes end."""
 
 import asyncio
 import json
@@ -20,7 +20,7 @@ from ggp_tools.competition.started_players import PlayerLog, StartedPlayer, Star
 from ggp_tools.moments import MOMENT
 from support import GAMES, TOP, InFolder, Reports, command_of, program, program_but, run, script, start, toml, wait_until
 
-# Whether a player answers INFO: always, never, or once it has printed something.
+# Whether a player answers INFO: always, never, or only after it has printed something.
 ANSWERS, SILENT, PRINTED = ["true"], ["false"], ["printed"]
 
 
@@ -70,7 +70,7 @@ def test_a_player_gets_its_port_its_directory_and_its_environment(tmp_path):
     said = (tmp_path / "players/ann.log").read_text()
     assert said == f"{ann.port} at {ann.port} {tmp_path}/inside\n"
     assert (ann.reporter.notes, ann.reporter.lines) == ([f"start cup-001 ann: process {process}, port {ann.port}"], [])
-    assert (tmp_path / "players/ann.log").stat().st_mode & 0o777 == 0o600
+    assert [(tmp_path / name).stat().st_mode & 0o777 for name in ("players", "players/ann.log")] == [0o700, 0o600]
 
 
 def test_it_is_limited(tmp_path):
@@ -197,7 +197,7 @@ def test_a_port_that_is_taken_is_left_for_another(tmp_path):
 
 
 def test_all_that_a_player_has_started_is_ended(tmp_path):
-    # One process is in another session, one has another environment, one ignores SIGTERM.
+    # One process is in another session, one has another environment, and one ignores SIGTERM.
     script = "setsid sleep 600 & echo $!; env -i sleep 600 & echo $!; (trap '' TERM; echo $(exec sh -c 'echo $PPID'); while :; do sleep 600; done) & touch up; wait"
     ann = player(tmp_path, script)
     ann.referee.info_words = lambda place: ["test", "-e", str(tmp_path / "up")]
@@ -325,7 +325,7 @@ def test_a_launcher_that_reports_a_wrong_address_is_reported(tmp_path, words):
 
 
 def test_a_launcher_may_not_report_the_address_of_another_player(tmp_path):
-    """Neither that of a player with an address, nor that of a player that runs here."""
+    """The launcher may report neither the address of a player with an address, nor that of a player that runs here."""
     address = "localhost:9150"
     ann = launched(tmp_path, "exec sleep 600", "echo 'ggp_competition: player 1 127.0.0.1:9150' >&2; exec cat")
     players = [Player("bob", address, 1, 1, None), Player("cid", "", 1, 1, command("")), Player("ann", "", 1, 1, ann.command)]
@@ -397,7 +397,7 @@ def test_a_launched_player_whose_node_is_lost_is_reported(tmp_path, monkeypatch)
         await ann.watching
 
     asyncio.run(play())
-    assert ann.reporter.lines == ["died cup-001 ann: nothing was heard from it for 1 s"]
+    assert ann.reporter.lines == ["died cup-001 ann: it sent nothing for 1 s"]
 
 
 # ---- memory
@@ -418,7 +418,7 @@ def test_the_memory_of_all_processes_is_bounded_where_systemd_takes_it(tmp_path,
     user = "" if os.geteuid() == 0 else "--user "
     words = f"{user}--scope --quiet --property=MemoryMax={1 << 30} --property=MemorySwapMax=0 --"
     assert asked.read_text().splitlines() == [f"{words} true", f"{words} sh -c echo up; exec sleep 600"]
-    # A systemd-run that does not work, for example without systemd, is not used.
+    # If systemd-run does not work, for example because there is no systemd, it is not used.
     systemd.write_text("#!/bin/sh\nexit 1\n")
     assert (job.bounded(1 << 30), job.bounded(0)) == ([], [])
 
@@ -551,7 +551,7 @@ class Started(InFolder):
             self.assertEqual(run(self.folder, *words)[::2], (0, ""))
 
     def ended(self, number):
-        """Starts `play`, waits until a match that does not end has begun, and sends a signal. Returns the output and the players of `play`."""
+        """Starts `play`, waits until an endless match has begun, and sends a signal. Returns the output and the players of `play`."""
         waiting = program_but(self.folder / "waiting", '"$1" = run', "exec sleep 3600")
         playing = start(self.folder, "play", "--program", waiting)
         self.assertEqual(playing.stdout.readline(), "begin cup-001 countdown ann bob\n")
@@ -640,7 +640,7 @@ class Started(InFolder):
     @unittest.skipUnless(os.geteuid() == 0, "only root can run a player as another user")
     def test_a_player_of_another_user_reads_and_ends_nothing(self):
         thief, python = script(self.folder / "thief.py", THIEF), self.folder / "python"
-        # The other user can read this directory, but not the directory of the repository or that of open matches.
+        # The other user can read this directory, but neither the directory of the repository nor that of open matches.
         self.folder.chmod(0o755)
         shutil.copytree(TOP / "python", python, ignore=shutil.ignore_patterns("__pycache__"))
         schedule = self.planned('launcher = ["setpriv", "--reuid=65534", "--regid=65534", "--clear-groups"]\nrestart = "each_match"')

@@ -38,7 +38,8 @@ def result(players, goals, wrong=None, retired=None, game="two"):
 
 class Tables(unittest.TestCase):
     def test_the_order_and_places(self):
-        # Means of 33.333.. and 33.33 are printed in the same way, so wins decide, then losses. If these are equal too, the rank is shared.
+        # Means of 33.333.. and 33.33 are printed in the same way. So wins decide, and then losses. If these are equal too, the rank is
+        # shared.
         line = Line("x", matches=3, scored=3, goals=100, won=1, lost=2)
         changes = [
             ({}, {"goals": 101}, 1), ({"goals": 3333, "scored": 100}, {"won": 0}, -1), ({}, {"goals": 3333, "scored": 100}, 0),
@@ -68,7 +69,7 @@ class Tables(unittest.TestCase):
         self.assertEqual([row[rows[0].index("by forfeit")] for row in rows[1:]], ["0 won, 1 lost"] * 2)
 
     def test_substituted_moves_do_not_decide_places(self):
-        # By goals only, bob would be above ann, with fewer wins.
+        # By goals only, bob would be above ann, although he has fewer wins.
         results = [result(["ann", "cid"], [0, 100], [0, 5], retired=[False, True])] * 10 + [result(["ann", "dan"], [100, 0])] * 8
         results += [result(["ann", "dan"], [0, 100])] * 2 + [result(["bob", "dan"], [100, 0])] * 17 + [result(["bob", "dan"], [0, 100])] * 3
         table = tables_of(competition("forfeit = true"), results)[0]
@@ -84,9 +85,11 @@ class Tables(unittest.TestCase):
     def test_a_match_that_was_ordered_again_counts_for_nobody(self):
         first, second = result(["ann", "bob"], [100, 0]), result(["ann", "bob"], [0, 100])
         first = replace(first, match=replace(first.match, again="m2", reason="the host's cable"))
-        tables = tables_of(competition(), [first, second])
+        found = competition('strikes = 1\nforfeit = true\nfaults = {replaced = 2}\norder = "points"')
+        tables = tables_of(found, [first, second])
         self.assertEqual([(of.player, of.matches, of.won) for of in tables[0].standings()], [("bob", 1, 1), ("ann", 1, 0)])
-        files = table_files(Plan(None, competition(), {}, [first.match, second.match]), tables)
+        files = table_files(Plan(None, found, {}, [first.match, second.match]), tables)
+        self.assertEqual([json.loads(files["table.json"])[key] for key in ("matches", "planned", "forfeit", "replaced", "order")], [1, 1, True, 2, "points"])
         self.assertIn("cup: 1 of 1 matches\n", files["table.txt"].decode())
         self.assertIn("* m does not count: m2 replaces it: the host's cable\n", files["table.txt"].decode())
 
@@ -215,7 +218,7 @@ class Joined(unittest.TestCase):
 
     def test_one_table_has_the_players_and_games_of_all_and_the_anchors_of_the_first(self):
         first = self.plan("cup", [("ann",), ("bob", "withdrawn = true")], ["two"], "anchor = {ann = 1500, bob = 1000}")
-        second = self.plan("last", [("cid",), ("bob",), ("ann",)], ["one", "two"], "anchor = {ann = 1600, cid = 900}")
+        second = self.plan("last", [("cid", "withdrawn = true"), ("bob",), ("ann",)], ["one", "two"], "anchor = {ann = 1600, cid = 900}")
         found = joined([first, second])
         self.assertEqual(joined([first]), first)
         self.assertEqual((found.competition.name, [match.id for match in found.matches]), ("cup + last", ["cup-001", "last-001"]))

@@ -1,4 +1,4 @@
-"""The templates of pages show any names, moves and answers as text. No element or attribute of a page comes from these texts."""
+"""The templates show all names, moves and answers as text. No element and no attribute of a page comes from these texts."""
 
 import json
 from types import SimpleNamespace as Value

@@ -33,7 +33,7 @@ SPOILINGS = {
     "what players are told is missing": (without("cup/rules/nim.players"), "rules/nim.players does not exist"),
     "players are told ground rules": (OTHERWISE, "rules/SHA256SUMS does not agree with"),
     "a description is another": (changed("cup/games/nim.kif", lambda text: text + b"; more\n"), "games/nim.kif is not the description that the rules of nim were made from"),
-    "the matches are of another game": (another_game, "compared with games/nim.kif it differs: "),
+    "the matches are of another game": (another_game, "compared with games/nim.kif, it differs: "),
     "a page has other rules for players": (OTHER_PAGE, "pages/games/nim.html does not follow"),
 }
 
@@ -118,11 +118,11 @@ class Told(InFolder):
         # The next match may have begun while the first one was being checked.
         stopped = next(line for line in out.splitlines() if line.startswith("stopped nim, because "))
         first = next(match for match in wrongly if match in stopped)
-        words = f"no record {first}: compared with the description of nim it differs: "
+        words = f"no record {first}: compared with the description of nim, it differs: "
         self.assertIn(words, out)
         self.assertIn("gives 100; it is kept as ", out)
         report = self.folder / f"report-{first}.tar.gz"
-        self.assertIn(f"please report it, with {report.name}", out.replace(f"{self.folder}/", "").replace("./", ""))
+        self.assertIn(f"please report this, and include {report.name}", out.replace(f"{self.folder}/", "").replace("./", ""))
         names = "account.txt", "description.kif", "record.json", "rules.kif", "words.txt"
         with tarfile.open(report) as archive:
             self.assertEqual(sorted(archive.getnames()), [f"{first}/{name}" for name in names])
@@ -137,7 +137,7 @@ class Told(InFolder):
         logs = {match: (self.folder / f"logs/{match}.jsonl").read_bytes() for match, *_ in self.schedule}
         held = [match for match, log in logs.items() if log.endswith(line_of(Other("held", {"match": match, "reason": None})))]
         self.assertEqual(held, [match for match, game, *_ in self.schedule if game != "countdown"])
-        # No call confirms that line, so `publish` leaves it out, and `check` compares the matches with their descriptions again.
+        # No call confirms that line, so `publish` leaves it out, and `check` again compares the matches with their descriptions.
         self.assertEqual([name for name, data in files.items() if name.startswith("cup/logs/") and b'"held"' in data], [])
         self.assertEqual(files["cup/rules/nim.players"], self.rules("nim.players"))
         assert_spoilt(self, files, SPOILINGS)

@@ -98,6 +98,13 @@ class TomlLines(unittest.TestCase):
                 found = raised(TomlFault, read_toml, text)
                 self.assertEqual((found.line, found.key), (line, key))
 
+    def test_just_so_many_dots_and_signs_are_read(self):
+        # What a comment has does not count.
+        self.assertEqual(len(read_toml("# .\n" + "a." * 100 + "a = 1")[1]), 2)
+        text = "# =\na = [" + "1," * 149_998
+        self.assertEqual(len(read_toml(text + "]")[1]), 150_000)
+        self.assertEqual(raised(TomlFault, read_toml, text + "1,]").words, "there are more than 150,000 signs `=`, `,` and `[` outside of texts and comments")
+
     def test_each_text_has_lines_or_a_fault(self):
         chance, taken = random.Random(48), 0
         for _ in range(3000):

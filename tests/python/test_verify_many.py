@@ -1,5 +1,5 @@
-"""Checking records with many processes gives the same results as with one. A fake program accepts lines with `ok`, and treats lines that begin with
-a digit as lines of call logs."""
+"""Many processes give the same results for records as one process. A fake program accepts lines that contain `ok`. It treats lines that
+begin with a digit as lines of call logs."""
 
 import contextlib
 import io
@@ -34,7 +34,7 @@ def reading(read):
 
 class Pieces(unittest.TestCase):
     def pieces(self, size, *parts):
-        """Returns the pieces of an input that is read in these parts. An exception among the parts is raised."""
+        """Returns the pieces of an input that is read in these parts. If a part is an exception, it is raised."""
         reads = iter(parts)
 
         def read(stream, most):
@@ -109,7 +109,7 @@ class Checks(WithProgram):
 
     def test_a_fault_of_the_program(self):
         self.assertEqual(self.checked(b"ok\nshort\n"), (b"lawful\n", 0, 0, (b"ggp_manager: want of memory\n", 2)))
-        # With an unlawful record, the exit status is 1, otherwise 0.
+        # If there is an unlawful record, the exit status is 1, otherwise 0.
         for name, row, status in (("silent", "", 1), ("wrong", verdict_rows("goals").decode(), 0), ("fault", verdict_rows("goals").decode(), 2)):
             program = self.stand_in(name, f"#!/bin/sh\ncat > /dev/null\necho said >&2\nprintf '%s' '{row}'\nexit {status}\n")
             self.assertEqual(self.checked(b"no\n", program)[1:], (0, 0, (b"said\n", 2)), name)
@@ -160,7 +160,7 @@ class All(WithProgram):
 
     def test_behind_a_fault_nothing_is_written(self):
         text = b"ok\nno\n7\n" * 3 + b"ok\nshort\n" + b"ok\n" * 20
-        # Other pieces are still being checked after the error, so their processes write no file.
+        # When the error occurs, other pieces are still being checked, so the processes of this test write no file.
         program = self.stand_in("silent", f"#!/bin/sh\n{CHECK}")
         for size in (1, 4):
             written, said, fault = self.all(text, 3, size, program)
@@ -266,7 +266,7 @@ class Commands(WithProgram):
     def test_how_a_run_ends(self):
         words, more = ("--jobs", "3", "--piece", "9", "p", "--"), (["p", "verify", "--lines"], 3, 9)
         self.assertEqual(self.ended(*words), (0, more, b"", []))
-        # Ctrl-C ends the command by the signal, as it does the program, unless the signal is ignored.
+        # Unless the signal is ignored, Ctrl-C ends the command by this signal, as it ends the program.
         self.assertEqual(self.ended(*words, handler=signal.default_int_handler)[3], [(signal.SIGINT, signal.SIG_DFL)])
         for fault, said, status in ((Fault(b"no\n", 1), b"no\n", 1), (Fault(b"bad\n"), b"bad\n", 2), (MemoryError(), b"ggp_manager: want of memory\n", 2)):
             self.assertEqual(self.ended(*words, fault=fault), (status, more, said, []))

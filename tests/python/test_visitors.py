@@ -90,8 +90,8 @@ class Limits(Served):
         self.assertEqual(milliseconds, http_server.PATIENCE * 1_000)
 
     def pieces_taken(self, seconds):
-        """Returns the number of pieces of an answer that are sent to a visitor that needs this many seconds for each, by the clock of the event
-        loop."""
+        """Returns the number of pieces of an answer that are sent to a slow visitor. By the clock of the event loop, the visitor needs this
+        many seconds for each piece."""
         loop, now, taken = asyncio.new_event_loop(), [0.0], []
 
         async def write(piece):
@@ -132,7 +132,7 @@ class Limits(Served):
         with patch.object(self.site, "page", page):
             for at in range(20):
                 self.ask_and_leave(f"/{at}")
-            # The thread was already working for the first request. It does no work for the others.
+            # The thread was already working on the first request. It does no work for the others.
             held.set()
             self.assertEqual(self.ask("/last")[0], 404)
         self.assertEqual(made, ["/0", "/last"])
@@ -154,7 +154,7 @@ class Limits(Served):
 
     def test_one_client_does_not_take_all_connections(self):
         eighth, whole = [True] * 4 + [False], [True] * 32 + [False]
-        # A customer with IPv6 has many addresses. An IPv4 address may be in IPv6 notation.
+        # A customer with IPv6 has many addresses. An IPv4 address may be written in IPv6 notation.
         cases = (
             (["192.0.2.1"], eighth), (["127.0.0.1"], whole), (["::1", "::ffff:127.0.0.2", "127.0.0.1"], whole),
             ([f"2001:db8::{at:x}:{at:x}" for at in range(8)], eighth), (["192.0.2.1", "::ffff:192.0.2.1"], eighth),

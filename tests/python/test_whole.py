@@ -1,6 +1,6 @@
-"""A competition of 12 players, five of them bad, over three games with 6 matches at once. `play` is killed twice, interrupted once, and resumed. In
-the end, each match has one lawful record and one call log that reproduces it, no player was asked during a match, and the table agrees with a simple
-recount of the records."""
+"""A competition of 12 players, five of them bad, over three games with 6 matches at once. `play` is killed twice, interrupted once, and
+resumed. At the end, each match has one lawful record and one call log that reproduces it. No player was asked during a match. The table
+agrees with a simple recount of the records."""
 
 import json
 import signal
@@ -114,8 +114,8 @@ class Whole(InFolder):
 
 
 def test_a_round_begins_for_all_players_at_once():
-    """Ann answers so late that the thread of bob, by then, checks for the next message only every 0.8 s. If ann's next message does not wake this
-    thread, bob's message comes about 0.7 s after ann's. On a busy computer, one of the first rounds may be late."""
+    """Ann answers so late that the thread of bob already checks for the next message only every 0.8 s. If ann's next message does not wake
+    this thread, bob's message comes about 0.7 s after ann's. On a busy computer, one of the first rounds may be late."""
     ann, bob = (TestPlayer(name, "good", at) for at, name in enumerate(("ann", "bob")))
     answers, came, gaps = ann.answer, [], []
 

@@ -131,7 +131,7 @@ class Why(InFolder):
         shutil.unpack_archive(self.folder / "cup.tar.gz", self.folder / "there")
         told = self.why("cup-001")
         self.assertEqual(run(self.folder, "why", "there/cup", "cup-001"), (0, told, ""))
-        # A log without times (the referee could not read the clock), and a directory without a journal.
+        # A log without times, because the referee could not read the clock, and a directory without a journal.
         (self.folder / "play.log").unlink()
         log = self.folder / "logs/cup-001.jsonl"
         log.write_text(re.sub('"time":[0-9]+', '"time":null', log.read_text()))
@@ -182,9 +182,9 @@ class Why(InFolder):
         lines = [
             "info cup-001 cup-001: available, 0.0 s", "info cup-002 cup-001: available, 0.0 s", "begin cup-002 heap bob cup-001",
             "begin cup-001 heap cup-001 bob", "end cup-002 heap bob 100, cup-001 0, 3.1 s", "no answer to abort cup-001: h:1",
-            "stopped heap, because cup-001 does not follow its description; 3 waiting matches of it will not begin",
+            "stopped heap, because cup-001 does not follow its description; 3 waiting matches of this game will not begin",
             "round 1 of 2: cup-001 to cup-002", "missing 20 matches between cup-001 and cup-020: broken off",
-            # In a competition that has grown, an id may begin with the id of another match.
+            # In a competition that has grown, the id of a match may begin with the id of another one.
             "begin cup-0010 heap cup-001 bob", "stopped heap, because cup-0010 does not follow its description", "round 10 of 12: cup-001 to cup-002",
         ]
         (self.folder / "play.log").write_text("".join(f"2026-01-01T00:00:00.000Z {line}\n" for line in lines))
@@ -194,7 +194,7 @@ class Why(InFolder):
         self.assertEqual([note.text for note in self.explained(names=("cup-001", "bob"), round=1).notes()], [lines[at] for at in (0, 3, 5, 6, 7)])
 
     def said_of(self, notes: str, log: str, *players: str) -> str:
-        """Returns the report about players from a journal and a log. `MATCH` in the notes is replaced by the id of the match."""
+        """Returns the report about players from a journal and a log. In `notes`, `MATCH` stands for the id of the match."""
         plan = plan_in(str(self.folder), ["ann", "bob"])
         match = plan.matches[0]
         plan.folder.journal.write_text(notes.replace("MATCH", match.id))

@@ -156,7 +156,7 @@ impl fmt::Display for FileFault {
 }
 
 /// Reports why the file at this path cannot be used. Errors of the stream are ignored.
-pub fn tell_of_file<E: Write>(errors: &mut E, path: &str, why: FileFault) {
+pub fn report_unusable_file<E: Write>(errors: &mut E, path: &str, why: FileFault) {
     let mut pieces = Pieces { stream: errors };
     let _ = writeln!(
         pieces,

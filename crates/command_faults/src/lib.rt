@@ -10,6 +10,6 @@ mod printable;
 pub use fault::Fault;
 pub use files::{
     FileFault, MAX_LINE, MAX_PLAYER_RULES, MaxBytes, NamedFile, file_text, input_file_fault,
-    opened, opened_regular, reading_fault, tell_of_file,
+    opened, opened_regular, reading_fault, report_unusable_file,
 };
 pub use printable::Printable;

@@ -325,9 +325,9 @@ fn shown<'a>(alloc: Global, error: clap::Error) -> Result<Task<'a>, ArgumentFaul
 /// Reads the arguments after the program's name.
 pub fn read_arguments<'a>(
     alloc: Global,
-    words: &'a [&'a str],
+    arguments: &'a [&'a str],
 ) -> Result<Task<'a>, ArgumentFault<'a>> {
-    match program(alloc)?.try_get_matches_from(words) {
+    match program(alloc)?.try_get_matches_from(arguments) {
         Ok(found) => match found.subcommand() {
             Some((name, found)) => task(alloc, name, found),
             None => Err(ArgumentFault::Form),

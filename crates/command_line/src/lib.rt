@@ -11,7 +11,7 @@ mod tasks;
 
 pub use arguments::{ArgumentFault, WrongValue, read_arguments};
 pub use program::VERSION;
-pub use refusals::{asks_why, has_own_word, refusal};
+pub use refusals::{always_explains, asks_why, refusal};
 pub use tasks::{
     AbortPlan, GameOptions, GameRequest, InfoPlan, MatchTask, RunPlan, SeasonPlan, ServicePlan,
     Task,

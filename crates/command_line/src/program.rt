@@ -387,8 +387,9 @@ static COMMANDS: [CommandForm; 8] = [
         arguments: &DESK,
         notes: concat!(
             "Example: ggp_manager desk --countdown 3 match.script\n\n",
-            "status 0: every line is a call. 1: a line is not, or another error. ",
-            "2: usage error. 3: out of memory. With --why 1: a line is not a call. 2: any other error.",
+            "status 0: every line is a valid call. 1: a line is not a valid call, or another error occurred. ",
+            "2: usage error. 3: out of memory. With --why, 1: a line is not a valid call. 2: any other error. ",
+            "With --listen, 0: the desk has ended, and its files are written.",
         ),
     },
     CommandForm {
@@ -397,8 +398,8 @@ static COMMANDS: [CommandForm; 8] = [
         arguments: &RUN,
         notes: concat!(
             "Example: ggp_manager run --rules-file game.kif --id m1 ann@127.0.0.1:9147 bob@127.0.0.1:9148 > m1.record\n\n",
-            "status 0: the match has finished or was aborted. 1: an error. ",
-            "2: usage error. 3: out of memory. With --why 2: any error.",
+            "status 0: the match has finished or was aborted. 1: an error occurred. ",
+            "2: usage error. 3: out of memory. With --why, 2: any error.",
         ),
     },
     CommandForm {
@@ -408,8 +409,8 @@ static COMMANDS: [CommandForm; 8] = [
         notes: concat!(
             "A line of the schedule: ID START PLAY NAME@HOST:PORT .. - the match id, the two clocks in seconds, and one player for each role. Empty lines and lines that begin with # are skipped. With --records, no record is printed.\n\n",
             "Example: ggp_manager season --rules-file game.kif --records season.records schedule\n\n",
-            "status 0: every match has a record. 1: a match has none, or another error. ",
-            "2: usage error. 3: out of memory. With --why 2: any error.",
+            "status 0: every match has a record. 1: a match has no record, or another error occurred. ",
+            "2: usage error. 3: out of memory. With --why, 2: any error.",
         ),
     },
     CommandForm {
@@ -418,8 +419,8 @@ static COMMANDS: [CommandForm; 8] = [
         arguments: &VERIFY,
         notes: concat!(
             "Example: ggp_manager verify --rules-file game.kif --lines season.records\n\n",
-            "status 0: every record is lawful. 1: a record is not, or another error. ",
-            "2: usage error. 3: out of memory. With --why or --json 1: a record is not lawful. 2: any other error.",
+            "status 0: every record is lawful. 1: a record is not lawful, or another error occurred. ",
+            "2: usage error. 3: out of memory. With --why or --json, 1: a record is not lawful. 2: any other error.",
         ),
     },
     CommandForm {
@@ -428,8 +429,8 @@ static COMMANDS: [CommandForm; 8] = [
         arguments: &REPLAY,
         notes: concat!(
             "Example: ggp_manager replay --rules-file game.kif match.account\n\n",
-            "status 0: every call gets its reply again. 1: a call does not, or another error. ",
-            "2: usage error. 3: out of memory. With --why or --json 1: a call gets another reply. 2: any other error.",
+            "status 0: every call gets the logged reply. 1: a call gets a different reply, or another error occurred. ",
+            "2: usage error. 3: out of memory. With --why or --json, 1: a call gets a different reply. 2: any other error.",
         ),
     },
     CommandForm {
@@ -438,8 +439,8 @@ static COMMANDS: [CommandForm; 8] = [
         arguments: &INFO,
         notes: concat!(
             "Example: ggp_manager info ann@127.0.0.1:9147\n\n",
-            "status 0: the player answered. 1: it did not, or another error. ",
-            "2: usage error. 3: out of memory. With --why or --json 1: the player did not answer. 2: any other error.",
+            "status 0: the player answered. 1: the player did not answer, or another error occurred. ",
+            "2: usage error. 3: out of memory. With --why or --json, 1: the player did not answer. 2: any other error.",
         ),
     },
     CommandForm {
@@ -448,8 +449,8 @@ static COMMANDS: [CommandForm; 8] = [
         arguments: &CHECK,
         notes: concat!(
             "Example: ggp_manager check --rules-file game.kif --play 5 ann@127.0.0.1:9147\n\n",
-            "status 0: no answer was bad. 1: an answer was, or another error. ",
-            "2: usage error. 3: out of memory. With --why 1: an answer was bad. 2: any other error.",
+            "status 0: no answer was bad. 1: an answer was bad, or another error occurred. ",
+            "2: usage error. 3: out of memory. With --why, 1: an answer was bad. 2: any other error.",
         ),
     },
     CommandForm {
@@ -458,8 +459,8 @@ static COMMANDS: [CommandForm; 8] = [
         arguments: &ABORT,
         notes: concat!(
             "Example: ggp_manager abort m1 ann@127.0.0.1:9147 bob@127.0.0.1:9148\n\n",
-            "status 0: every player answered. 1: a player did not, or another error. ",
-            "2: usage error. 3: out of memory. With --why or --json 1: a player did not. 2: any other error.",
+            "status 0: every player answered. 1: a player did not answer, or another error occurred. ",
+            "2: usage error. 3: out of memory. With --why or --json, 1: a player did not answer. 2: any other error.",
         ),
     },
 ];

@@ -6,10 +6,10 @@ use clap::error::ErrorKind;
 use std::alloc::{AllocError, Global};
 
 /// The commands that always print an explanation before the error, even if standard error is not a terminal.
-const OWN_COMMANDS: [&str; 4] = ["season", "check", "replay", "abort"];
+const EXPLAINED_COMMANDS: [&str; 4] = ["season", "check", "replay", "abort"];
 
 /// The options that also make the program print an explanation.
-const OWN_OPTIONS: [&str; 7] = [
+const EXPLAINED_OPTIONS: [&str; 7] = [
     "--rules-file",
     "--large",
     "--player-rules",
@@ -22,8 +22,8 @@ const OWN_OPTIONS: [&str; 7] = [
 const FORMER_PLAYER_RULES: &str = "--told";
 
 /// Whether the argument is this option, with or without `=VALUE`.
-fn is_option(word: &str, option: &str) -> bool {
-    match word.strip_prefix(option) {
+fn is_option(argument: &str, option: &str) -> bool {
+    match argument.strip_prefix(option) {
         Some(rest) => rest.is_empty() || rest.starts_with('='),
         None => false,
     }
@@ -31,21 +31,24 @@ fn is_option(word: &str, option: &str) -> bool {
 
 /// Whether a command line has a command or an option with which the program always prints an explanation before the error, even if standard
 /// error is not a terminal.
-pub fn has_own_word(words: &[String]) -> bool {
-    let is_own = |word: &String| OWN_OPTIONS
+pub fn always_explains(arguments: &[String]) -> bool {
+    let is_own = |argument: &String| EXPLAINED_OPTIONS
         .iter()
-        .any(|option| is_option(word.as_str(), option));
-    match words.first() {
-        Some(first) if OWN_COMMANDS.iter().any(|name| first.as_str() == *name) => true,
-        _ => words.iter().any(is_own),
+        .any(|option| is_option(argument.as_str(), option));
+    match arguments.first() {
+        Some(first)
+            if EXPLAINED_COMMANDS
+                .iter()
+                .any(|name| first.as_str() == *name) => true,
+        _ => arguments.iter().any(is_own),
     }
 }
 
 /// Whether a command line has `--why` or `--json`. With either, the program prints the explanation even if standard error
 /// is not a terminal, and its exit status says whether the answer is no. Arguments after `--` are not options.
-pub fn asks_why(words: &[String]) -> bool {
-    for word in words {
-        match word.as_str() {
+pub fn asks_why(arguments: &[String]) -> bool {
+    for argument in arguments {
+        match argument.as_str() {
             "--why" | "--json" => return true,
             "--" => return false,
             _ => {}
@@ -55,7 +58,7 @@ pub fn asks_why(words: &[String]) -> bool {
 }
 
 /// The message about an invalid value.
-fn words_of(alloc: Global, command: &str, wrong: WrongValue<'_>) -> Result<String, AllocError> {
+fn message_of(alloc: Global, command: &str, wrong: WrongValue<'_>) -> Result<String, AllocError> {
     match wrong {
         WrongValue::Game if command == "run" => String::from_str(
             alloc,
@@ -95,8 +98,8 @@ fn with_usage(
 }
 
 /// The message of `clap` about these arguments.
-fn wrong_form<'a>(alloc: Global, words: &'a [&'a str]) -> Result<String, AllocError> {
-    match program(alloc)?.try_get_matches_from(words) {
+fn wrong_form<'a>(alloc: Global, arguments: &'a [&'a str]) -> Result<String, AllocError> {
+    match program(alloc)?.try_get_matches_from(arguments) {
         Ok(_) => Ok(String::new(alloc)),
         Err(error) => error.to_string(alloc),
     }
@@ -105,23 +108,23 @@ fn wrong_form<'a>(alloc: Global, words: &'a [&'a str]) -> Result<String, AllocEr
 /// The message for a user whose command line is refused, with the usage. `fault` is the error of `read_arguments` for the same arguments.
 pub fn refusal<'a>(
     alloc: Global,
-    words: &'a [&'a str],
+    arguments: &'a [&'a str],
     fault: ArgumentFault<'_>,
 ) -> Result<String, AllocError> {
-    match (fault, words.first()) {
+    match (fault, arguments.first()) {
         (ArgumentFault::Value(wrong), Some(command)) => {
-            let what = words_of(alloc, command, wrong)?;
+            let what = message_of(alloc, command, wrong)?;
             with_usage(alloc, command, ErrorKind::ValueValidation, what.as_str())
         }
         (_, Some(command))
-            if words
+            if arguments
                 .iter()
-                .any(|word| is_option(word, FORMER_PLAYER_RULES)) => with_usage(
+                .any(|argument| is_option(argument, FORMER_PLAYER_RULES)) => with_usage(
             alloc,
             command,
             ErrorKind::UnknownArgument,
             "--told is now --player-rules",
         ),
-        _ => wrong_form(alloc, words),
+        _ => wrong_form(alloc, arguments),
     }
 }

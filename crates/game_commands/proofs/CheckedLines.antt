@@ -58,11 +58,11 @@ read_stops remaining contents is_json g TooLong verdicts bytes lost left reader 
 read_stops remaining contents is_json g Memory verdicts bytes lost left reader mid reader' writer writer' same calls cut feedless fails tells =
     (fails.1 ∙ same, tells)
 
-pub tell_stops : {S M R W : Type 0} (remaining : R → Option (List ℕ)) (contents : W → Option (List ℕ)) (is_json : Bool) (g : Rules S M) (fault : Fault) (verdicts : List Verdict) (bytes line : List ℕ)
+pub write_stops : {S M R W : Type 0} (remaining : R → Option (List ℕ)) (contents : W → Option (List ℕ)) (is_json : Bool) (g : Rules S M) (fault : Fault) (verdicts : List Verdict) (bytes line : List ℕ)
     (reader reader' : Counting R) (writer mid writer' : Counting W)
     → reader'.faults ≡ reader.faults → HasFirstLine (remaining reader'.stream) bytes line → TellsVerdicts contents is_json verdicts writer mid → LineFails contents is_json g fault line mid writer'
     → CheckStops remaining contents is_json g fault verdicts bytes reader reader' writer writer'
-tell_stops remaining contents is_json g fault verdicts bytes line reader reader' writer mid writer' same next tells (inl (is, kept)) =
+write_stops remaining contents is_json g fault verdicts bytes line reader reader' writer mid writer' same next tells (inl (is, kept)) =
     rw is (same, rw kept tells)
-tell_stops remaining contents is_json g fault verdicts bytes line reader reader' writer mid writer' same next tells (inr (is, (failed, part))) =
+write_stops remaining contents is_json g fault verdicts bytes line reader reader' writer mid writer' same next tells (inr (is, (failed, part))) =
     rw is (same, (line, next, (failed ∙ ap one_more tells.1, (part.0, part.1, part.2, part.3, Appends-trans _ _ _ _ _ tells.0 part.4))))

@@ -37,7 +37,7 @@ fn write_verdict<W: Write>(
 }
 
 /// Returns the error for a record that is not lawful. With JSON it first writes the verdict.
-fn tell_unlawful<W: Write>(
+fn write_unlawful<W: Write>(
     alloc: Global,
     is_json: bool,
     fault: VerifyFault,
@@ -79,7 +79,7 @@ pub fn check_record<G: Game, R: Read, W: Write>(
         Ok(()) => write_verdict(alloc, is_json, Verdict::Lawful, writer),
         Err(VerifyFault::Memory) => Err(Fault::Memory),
         Err(fault) => {
-            let told = tell_unlawful(alloc, is_json, fault, writer);
+            let told = write_unlawful(alloc, is_json, fault, writer);
             if let VerifyFault::NotJson = fault {
                 *evidence = Evidence::Record(record);
             }

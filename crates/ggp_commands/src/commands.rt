@@ -14,10 +14,10 @@ use crate::loaded_game::{LoadedGame, load};
 use crate::log_target::{LogTarget, log_target};
 use crate::matches::{ReadyTask, input_of, play_with_reports};
 use crate::serving::serve;
-use crate::shared_files::{refuse_shared, tell_file};
+use crate::shared_files::{refuse_shared, report_faulty_file};
 use crate::surroundings::Surroundings;
 use command_faults::Fault;
-use command_line::{GameOptions, MatchTask, Task, has_own_word, read_arguments, refusal};
+use command_line::{GameOptions, MatchTask, Task, always_explains, read_arguments, refusal};
 use desk_service::Listens;
 use game_commands::{Evidence, for_game};
 use game_core::Counted;
@@ -49,7 +49,7 @@ pub struct Reports<E> {
 /// terminals of `around` say that it is on the command line.
 pub fn command<H, S, R: Read, W: Write, E: Write + Send + Drop>(
     around: &Surroundings<'_, H, S>,
-    words: &[String],
+    arguments: &[String],
     reader: &mut Counted<R>,
     writer: &mut Counted<W>,
     errors: E,
@@ -64,8 +64,8 @@ where
         errors,
         evidence: Evidence::Nothing,
     };
-    let performed = match texts(around.alloc, words) {
-        Ok(words) => match task_of(around.alloc, &words, &mut reports.evidence) {
+    let performed = match texts(around.alloc, arguments) {
+        Ok(arguments) => match task_of(around.alloc, &arguments, &mut reports.evidence) {
             Ok(task) => { perform::<H, S, R, W, E>(around, &task, reader, writer, &mut reports) }
             Err(fault) => Err(fault),
         },
@@ -75,7 +75,7 @@ where
         mut errors,
         evidence,
     } = reports;
-    let are_wanted = around.terminals.explain() || has_own_word(words);
+    let are_wanted = around.terminals.explain() || always_explains(arguments);
     explain(
         around.alloc,
         are_wanted,
@@ -104,13 +104,16 @@ where
         around, task, reader, writer, reports,
     );
     if let Err(fault) = performed {
-        tell_file(around.alloc, task, fault, &mut reports.errors);
+        report_faulty_file(around.alloc, task, fault, &mut reports.errors);
     }
     performed
 }
 
-fn texts<'a>(alloc: Global, words: &'a [String]) -> Result<Vec<&'a str>, AllocError> {
-    words.iter().map(|word| word.as_str()).collect(alloc)
+fn texts<'a>(alloc: Global, arguments: &'a [String]) -> Result<Vec<&'a str>, AllocError> {
+    arguments
+        .iter()
+        .map(|argument| argument.as_str())
+        .collect(alloc)
 }
 
 /// Reports the error of a command, if it has one. Returns the exit status.
@@ -137,15 +140,15 @@ pub fn report<E: Write>(errors: &mut E, fault: Fault, why: bool) -> u8
 /// The task of these arguments. If they are refused, stores the message as evidence.
 fn task_of<'a>(
     alloc: Global,
-    words: &'a [&'a str],
+    arguments: &'a [&'a str],
     evidence: &mut Evidence,
 ) -> Result<Task<'a>, Fault> {
-    match read_arguments(alloc, words) {
+    match read_arguments(alloc, arguments) {
         Ok(task) => Ok(task),
         Err(fault) => {
             let refused = argument_fault(fault);
             if let Fault::WrongUse = refused {
-                if let Ok(lines) = refusal(alloc, words, fault) {
+                if let Ok(lines) = refusal(alloc, arguments, fault) {
                     *evidence = Evidence::CommandLine(lines);
                 }
             }

@@ -29,7 +29,7 @@ pub enum Subject<'a> {
 fn push_evidence(alloc: Global, evidence: &Evidence, lines: &mut String) -> Result<(), AllocError> {
     match evidence {
         Evidence::Nothing => {}
-        Evidence::CommandLine(words) => lines.push_str(words.as_str())?,
+        Evidence::CommandLine(message) => lines.push_str(message.as_str())?,
         Evidence::Description(text, limits, fault) => {
             push_description(alloc, *limits, text, *fault, lines)?
         }

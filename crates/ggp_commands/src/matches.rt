@@ -18,7 +18,7 @@ use crate::descriptors::allowed_form;
 use crate::explaining::{Subject, explain};
 use crate::faults::{check_fault, match_fault, season_fault};
 use crate::log_target::LogTarget;
-use crate::records_file::{last_partial, mend_records, records_file, tell_state};
+use crate::records_file::{last_partial, mend_records, records_file, report_state};
 use crate::surroundings::{Surroundings, Terminals};
 use command_faults::{Fault, MaxBytes, NamedFile, file_text};
 use command_line::{MatchTask, RunPlan, SeasonPlan, VERSION};
@@ -231,7 +231,7 @@ where
     let left = undone(rt, alloc, game.game, Some(path), plans, &mut errors)?;
     let played = play_plans(around, form, game, &left, &mut file, console);
     let state = file.end().state();
-    tell_state(&mut errors, path, state);
+    report_state(&mut errors, path, state);
     match (state, played) {
         (RecordsState::Lost | RecordsState::Cut, Ok(_)) => Err(Fault::WriteFault),
         (_, played) => played,

@@ -4,7 +4,7 @@ ghost use Rattle.command_faults.specs.Faults.{IsFileFault};
 ghost use Rattle.command_faults.specs.declared.files.NamedFile.TheVariants.{Records};
 
 use crate::faults::records_fault;
-use command_faults::{Fault, FileFault, NamedFile, Printable, tell_of_file};
+use command_faults::{Fault, FileFault, NamedFile, Printable, report_unusable_file};
 use matches_to_play::{PartialRecord, partial_record};
 use packed_rules::PackedGame;
 use process_streams::{
@@ -16,26 +16,26 @@ use std::io::Write;
 use std::rt::Files;
 use whole_streams::Pieces;
 
-fn tell<E: Write>(errors: &mut E, path: &str, what: &str) {
+fn report_on_file<E: Write>(errors: &mut E, path: &str, what: &str) {
     let mut pieces = Pieces { stream: errors };
     let _ = writeln!(pieces, "ggp_manager: {} {what}", Printable(path));
 }
 
 /// Reports what happened to the file while records were appended to it.
-pub fn tell_state<E: Write>(errors: &mut E, path: &str, state: RecordsState) {
+pub fn report_state<E: Write>(errors: &mut E, path: &str, state: RecordsState) {
     match state {
         RecordsState::Kept => {}
-        RecordsState::Lost => tell(
+        RecordsState::Lost => report_on_file(
             errors,
             path,
             "is no longer the file that records were added to",
         ),
-        RecordsState::Cut => tell(
+        RecordsState::Cut => report_on_file(
             errors,
             path,
             "was cut by another program while records were added to it",
         ),
-        RecordsState::Grown => tell(
+        RecordsState::Grown => report_on_file(
             errors,
             path,
             "has lines that another program added: --records needs a file that no other program writes to",
@@ -44,7 +44,7 @@ pub fn tell_state<E: Write>(errors: &mut E, path: &str, state: RecordsState) {
 }
 
 /// Reports that the end of a file was moved to another file: the record in this line and its call log, or an incomplete last line.
-fn tell_torn<E: Write>(errors: &mut E, path: &str, first: Option<u64>, torn: &str) {
+fn report_torn_end<E: Write>(errors: &mut E, path: &str, first: Option<u64>, torn: &str) {
     let (path, torn) = (Printable(path), Printable(torn));
     let mut pieces = Pieces { stream: errors };
     let _ = match first {
@@ -60,7 +60,7 @@ fn tell_torn<E: Write>(errors: &mut E, path: &str, first: Option<u64>, torn: &st
 }
 
 /// Reports that a record in the middle of a file has an incomplete call log.
-fn tell_partial<E: Write>(errors: &mut E, path: &str, line: u64) {
+fn report_partial<E: Write>(errors: &mut E, path: &str, line: u64) {
     let mut pieces = Pieces { stream: errors };
     let _ = writeln!(
         pieces,
@@ -75,12 +75,12 @@ fn refused<E: Write>(errors: &mut E, path: &str, fault: RecordsFault) -> Fault
 {
     let fault_of_program = records_fault(fault);
     match fault_of_program {
-        Fault::File(_, _) if matches!(fault, RecordsFault::NoRecords) => tell(
+        Fault::File(_, _) if matches!(fault, RecordsFault::NoRecords) => report_on_file(
             errors,
             path,
             "is not a file of records: it does not begin with {",
         ),
-        Fault::File(_, why) => tell_of_file(errors, path, why),
+        Fault::File(_, why) => report_unusable_file(errors, path, why),
         _ => {}
     }
     fault_of_program
@@ -122,7 +122,7 @@ pub fn last_partial<F: Files, E: Write>(
             },
         ) => Ok(Some(line)),
         Some(PartialRecord { line, .. }) => {
-            tell_partial(errors, path, line);
+            report_partial(errors, path, line);
             Err(Fault::File(NamedFile::Records, FileFault::Partial))
         }
     }
@@ -142,7 +142,7 @@ pub fn mend_records<F: LockedFiles, E: Write>(
     match file.mend(alloc, first) {
         Ok(None) => Ok(()),
         Ok(Some(torn)) => {
-            tell_torn(errors, path, first, torn.as_str());
+            report_torn_end(errors, path, first, torn.as_str());
             Ok(())
         }
         Err(fault) => Err(refused(errors, path, fault)),

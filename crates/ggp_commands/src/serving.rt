@@ -8,7 +8,7 @@ ghost use Rattle.game_commands.specs.Script.{records};
 ghost use Rattle.ggp_commands.specs.LoadedGame.{AreGamesOf, IsGameOf};
 
 use crate::commands::Reports;
-use crate::records_file::{mend_records, records_file, tell_state};
+use crate::records_file::{mend_records, records_file, report_state};
 use crate::shared_files::rules_file;
 use call_history::Closed;
 use command_faults::{Fault, FileFault, NamedFile, Printable};
@@ -48,7 +48,7 @@ fn game_at<F: Files>(
 }
 
 /// Reports which file an error of a game is about.
-fn tell_source<E: Write>(errors: &mut E, source: GameSource<'_>, fault: Fault) {
+fn report_source<E: Write>(errors: &mut E, source: GameSource<'_>, fault: Fault) {
     if let Some(path) = rules_file(source) {
         let mut pieces = Pieces { stream: errors };
         let _ = writeln!(pieces, "ggp_manager: {}: {fault}", Printable(path));
@@ -69,7 +69,7 @@ fn games_of<F: Files, E: Write>(
         match game_at(files, alloc, *source, &mut reports.evidence) {
             Ok(game) => games.push(game)?,
             Err(fault) => {
-                tell_source(&mut reports.errors, *source, fault);
+                report_source(&mut reports.errors, *source, fault);
                 return Err(fault);
             }
         }
@@ -180,7 +180,7 @@ fn keep<F: LockedFiles, E: Write>(
     let mut file = Counted::new(file);
     let written = write_records(alloc, closed, &mut file);
     let state = file.end().state();
-    tell_state(errors, path, state);
+    report_state(errors, path, state);
     match (state, written, kept) {
         (_, Err(fault), _) | (_, _, Err(fault)) => Err(fault),
         (RecordsState::Lost | RecordsState::Cut, _, _) => Err(Fault::WriteFault),
@@ -189,7 +189,7 @@ fn keep<F: LockedFiles, E: Write>(
 }
 
 /// Tells clients where to connect.
-fn tell_clients<W: Write>(
+fn print_address<W: Write>(
     listener: &Listener,
     alloc: Global,
     address: &str,
@@ -217,7 +217,7 @@ where
         connections,
     } = *around;
     let files = desk_files(rt, alloc, plan, errors)?;
-    tell_clients(connections.listener, alloc, plan.address, writer)?;
+    print_address(connections.listener, alloc, plan.address, writer)?;
     let closed = serve_desk(around, games, plan.lines, reader)?;
     keep(alloc, &closed, files, plan.records, errors)
 }

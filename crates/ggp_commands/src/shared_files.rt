@@ -1,6 +1,6 @@
 //! The files and streams of a command: finds files that are used in two ways, and says which file an error is about.
 
-use command_faults::{Fault, FileFault, NamedFile, Printable, tell_of_file};
+use command_faults::{Fault, FileFault, NamedFile, Printable, report_unusable_file};
 use command_line::{GameOptions, MatchTask, SeasonPlan, Task};
 use match_plans::{GameCommand, GameSource, GameTask, RulesSource};
 use process_streams::{ERRORS, INPUT, OUTPUT, is_one_file};
@@ -166,7 +166,7 @@ fn are_at_odds<F: Files>(files: &F, one: Used<'_>, other: Used<'_>) -> bool {
     one.path == other.path || is_one_file(files, one.path, other.path)
 }
 
-fn tell_shared<F: Files, E: Write>(files: &F, one: Used<'_>, other: Used<'_>, errors: &mut E) {
+fn report_shared<F: Files, E: Write>(files: &F, one: Used<'_>, other: Used<'_>, errors: &mut E) {
     let emptied = if is_empty(files, other.path) {
         ", and is empty now, as `>` of the shell makes it"
     } else {
@@ -193,7 +193,7 @@ pub fn refuse_shared<F: Files, E: Write>(
     for (place, other) in used.iter().enumerate() {
         for one in &used[..place] {
             if are_at_odds(files, *one, *other) {
-                tell_shared(files, *one, *other, errors);
+                report_shared(files, *one, *other, errors);
                 return Err(Fault::File(other.role.named(), FileFault::Shared));
             }
         }
@@ -202,7 +202,7 @@ pub fn refuse_shared<F: Files, E: Write>(
 }
 
 /// Reports which file an error is about, unless that was already reported.
-pub fn tell_file<E: Write>(alloc: Global, task: &Task<'_>, fault: Fault, errors: &mut E) {
+pub fn report_faulty_file<E: Write>(alloc: Global, task: &Task<'_>, fault: Fault, errors: &mut E) {
     let Fault::File(named, why) = fault else {
         return;
     };
@@ -220,7 +220,7 @@ pub fn tell_file<E: Write>(alloc: Global, task: &Task<'_>, fault: Fault, errors:
             _ => false,
         };
         if is_it {
-            tell_of_file(errors, file.path, why);
+            report_unusable_file(errors, file.path, why);
         }
     }
 }

@@ -29,11 +29,11 @@ fn command_line(rt: &HostRuntime) -> io::Result<Vec<String>> {
 }
 
 /// How many matches a command may play: for `season` one for each match of the schedule, for all other commands one.
-fn places(words: &[String]) -> usize
+fn places(arguments: &[String]) -> usize
     ensures { 0 < result }
 {
-    match words.first() {
-        Some(word) if word.as_str() == "season" => MAX_SCHEDULED,
+    match arguments.first() {
+        Some(command) if command.as_str() == "season" => MAX_SCHEDULED,
         _ => 1,
     }
 }
@@ -65,7 +65,7 @@ struct Process<I, O, E> {
 fn perform<H, S, I: Read + Drop, O: Write + Drop, E: Write + Send + Drop>(
     rt: &H,
     reach: &S,
-    words: &[String],
+    arguments: &[String],
     process: Process<I, O, E>,
 ) -> u8
 where
@@ -89,14 +89,14 @@ where
         reach,
         terminals,
     };
-    command(&around, words, &mut reader, &mut writer, errors)
+    command(&around, arguments, &mut reader, &mut writer, errors)
 }
 
 fn main(rt: HostRuntime) -> ExitCode {
     let (input, output, errors) = (rt.stdin(), rt.stdout(), rt.stderr());
-    let words = command_line(&rt);
-    let why = match &words {
-        Ok(words) => asks_why(words),
+    let arguments = command_line(&rt);
+    let why = match &arguments {
+        Ok(arguments) => asks_why(arguments),
         Err(_) => false,
     };
     if hold_closed(&rt, input.as_fd(), output.as_fd(), errors.as_fd()).is_err() {
@@ -107,11 +107,11 @@ fn main(rt: HostRuntime) -> ExitCode {
         output: output.is_terminal(),
         why,
     };
-    let words = match words {
-        Ok(words) => words,
+    let arguments = match arguments {
+        Ok(arguments) => arguments,
         Err(error) => return ended(&mut rt.stderr(), fault_of(&error), why),
     };
-    let Ok(signals) = RoundSignal::many(rt.alloc(), places(&words)) else {
+    let Ok(signals) = RoundSignal::many(rt.alloc(), places(&arguments)) else {
         return ended(&mut rt.stderr(), Fault::Memory, why);
     };
     let limit = limit_of(&rt, rt.alloc(), FILE_SIZE);
@@ -136,5 +136,5 @@ fn main(rt: HostRuntime) -> ExitCode {
         rt: &network,
         signals: signals.as_slice(),
     };
-    ExitCode::from(perform(host, &reach, &words, process))
+    ExitCode::from(perform(host, &reach, &arguments, process))
 }

@@ -150,7 +150,7 @@ impl PlayerLog<'_> {
     }
 
     /// Reports a message with its answer, and the match if it ends with this message.
-    fn tell<R: Clock + Wait>(
+    fn report<R: Clock + Wait>(
         &mut self,
         rt: &R,
         sent: &Sent<'_>,
@@ -294,7 +294,7 @@ impl<H: Clock + Wait, P: Player + Explains> Player for LoggedPlayer<'_, H, P> {
         let message = SharedText::lent(self.log.alloc, body);
         let sent = self.log.begin(self.rt, &message);
         let answer = self.player.ask(seconds, body);
-        self.log.tell(self.rt, &sent, &answer, self.player.why());
+        self.log.report(self.rt, &sent, &answer, self.player.why());
         answer
     }
 
@@ -306,7 +306,7 @@ impl<H: Clock + Wait, P: Player + Explains> Player for LoggedPlayer<'_, H, P> {
     ) -> Result<Answer, AllocError> {
         let sent = self.log.begin(self.rt, message);
         let answer = self.player.ask_shared(alloc, seconds, message)?;
-        self.log.tell(self.rt, &sent, &answer, self.player.why());
+        self.log.report(self.rt, &sent, &answer, self.player.why());
         Ok(answer)
     }
 

@@ -9,13 +9,13 @@ pub enum LineFault {
     #[error("fewer than four words")]
     TooFewWords,
     /// The id is not UTF-8 text.
-    #[error("word 1 is no UTF-8")]
+    #[error("word 1 is not UTF-8")]
     NoId,
     /// START or PLAY is not a number up to 4,294,967,295 in digits without leading zeros.
-    #[error("word {0} is no number of seconds")]
+    #[error("word {0} is not a number of seconds")]
     NoClock(u64),
     /// A player's word is not a lawful name with a host and a port.
-    #[error("word {0} is no NAME@HOST:PORT")]
+    #[error("word {0} is not of the form NAME@HOST:PORT")]
     NoPlayer(u64),
     /// The number of players is not the number of roles.
     #[error("not one player for each role")]

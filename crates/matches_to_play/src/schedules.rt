@@ -10,7 +10,7 @@ ghost use Rattle.matches_to_play.specs.ToPlay.{AreLeft, AreUndone, HasNoUndone, 
 
 use crate::accounts::{PartialRecord, partial_record};
 use crate::done::{DoneMatches, done_matches};
-use command_faults::{Fault, Printable, tell_of_file};
+use command_faults::{Fault, Printable, report_unusable_file};
 use command_line::SeasonPlan;
 use game_core::Game;
 use match_plans::{MatchPlan, read_schedule};
@@ -44,7 +44,7 @@ fn left_over<'a>(
 }
 
 /// Reports how many lines of a file are neither lawful records nor lines of call logs, if there are any.
-fn tell_other_lines<E: Write>(errors: &mut E, path: &str, count: u64) {
+fn report_other_lines<E: Write>(errors: &mut E, path: &str, count: u64) {
     let mut pieces = Pieces { stream: errors };
     let _ = match count {
         0 => Ok(()),
@@ -75,12 +75,12 @@ fn done_by<F: Files, E: Write>(
 {
     match done_matches(files, alloc, game, path) {
         Ok(done) => {
-            tell_other_lines(errors, path, done.other_lines());
+            report_other_lines(errors, path, done.other_lines());
             Ok(done)
         }
         Err(fault) => {
             if let Fault::File(_, why) = fault {
-                tell_of_file(errors, path, why);
+                report_unusable_file(errors, path, why);
             }
             Err(fault)
         }
@@ -110,7 +110,7 @@ pub fn undone<'a, F: Files, E: Write>(
 }
 
 /// Reports the first record in the file that has an incomplete call log. Its match counts as over.
-fn tell_partial<F: Files, E: Write>(
+fn report_partial<F: Files, E: Write>(
     files: &F,
     alloc: Global,
     game: &PackedGame,
@@ -131,7 +131,7 @@ fn tell_partial<F: Files, E: Write>(
 }
 
 /// Reports that the file has no record of any match of a schedule.
-fn tell_none_done<E: Write>(errors: &mut E, path: &str) {
+fn report_none_done<E: Write>(errors: &mut E, path: &str) {
     let mut pieces = Pieces { stream: errors };
     let _ = writeln!(
         pieces,
@@ -158,10 +158,10 @@ pub fn plans_of<'a, F: Files, E: Write>(
     let left = undone(files, alloc, game, season.done, plans, errors)?;
     if let Some(path) = season.done {
         if left.len() == all {
-            tell_none_done(errors, path);
+            report_none_done(errors, path);
         }
         if season.form.has_history {
-            tell_partial(files, alloc, game, path, errors)?;
+            report_partial(files, alloc, game, path, errors)?;
         }
     }
     Ok(left)

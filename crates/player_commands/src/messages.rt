@@ -36,7 +36,7 @@ fn answer_to<N: Resolves + Clock, E: Write>(
     match contact(rt, alloc, player, SECONDS, message) {
         Ok(answer) => Ok(answer),
         Err(fault) => {
-            reasons.tell(player, fault);
+            reasons.report(player, fault);
             Err(contact_fault(fault))
         }
     }
@@ -102,7 +102,7 @@ fn unanswered_line(alloc: Global, name: &str, fault: CommandFault) -> Result<Str
     }
 }
 
-fn tell_unanswered<W: Write>(
+fn write_unanswered<W: Write>(
     alloc: Global,
     name: &str,
     fault: CommandFault,
@@ -142,7 +142,7 @@ pub fn info<N: Resolves + Clock, W: Write, E: Write + Drop>(
         }
         Err(fault) => {
             if plan.is_json {
-                tell_unanswered(alloc, name, fault, writer)?;
+                write_unanswered(alloc, name, fault, writer)?;
             }
             Err(fault)
         }
@@ -198,7 +198,7 @@ fn has_answered<N: Resolves + Clock, E: Write>(
     }
 }
 
-fn tell_abort<W: Write>(
+fn write_abort<W: Write>(
     alloc: Global,
     is_json: bool,
     name: &str,
@@ -240,13 +240,13 @@ pub fn abort<N: Resolves + Clock, W: Write, E: Write + Drop>(
                     return Err(fault);
                 };
                 if plan.is_json {
-                    tell_unanswered(alloc, player.name, fault, writer)?;
+                    write_unanswered(alloc, player.name, fault, writer)?;
                 }
                 short = Some(shortage);
                 continue;
             }
         };
-        tell_abort(alloc, plan.is_json, player.name, is_answered, writer)?;
+        write_abort(alloc, plan.is_json, player.name, is_answered, writer)?;
         have_answered = have_answered && is_answered;
     }
     match short {

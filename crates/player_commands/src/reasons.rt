@@ -15,7 +15,7 @@ pub struct Reasons<E> {
 
 impl<E: Write> Reasons<E> {
     /// Reports why a player gave no answer. Errors of the stream are ignored.
-    pub(crate) fn tell(&mut self, player: &PlayerAddress<'_>, fault: ContactFault) {
+    pub(crate) fn report(&mut self, player: &PlayerAddress<'_>, fault: ContactFault) {
         if self.are_wanted {
             write_reason(&mut self.errors, player, fault);
         }

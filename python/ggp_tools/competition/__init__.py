@@ -1,1 +1,2 @@
-"""Competitions, each in one directory: plans them, plays them with the referee `ggp_manager`, counts, shows and publishes them."""
+"""Runs competitions, each in one directory: plans them, plays them with the referee `ggp_manager`, counts their results, shows them and
+publishes them."""

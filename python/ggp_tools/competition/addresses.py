@@ -1,4 +1,4 @@
-"""The addresses of the players: which addresses the system refuses, and which lead to the same player."""
+"""Finds the addresses of the players: which of them the system refuses, and which lead to the same player."""
 
 import errno
 import ipaddress
@@ -9,16 +9,16 @@ from collections.abc import Iterable, Iterator
 
 from ggp_tools.competition.competition_file import Competition, Mistake, Player
 
-# All lookups together may take this many seconds, because a resolver may not answer.
+# The time limit of all lookups together, in seconds, because a resolver may not answer.
 SECONDS = 10
 LOOPBACK = {4: "127.0.0.1", 6: "::1"}
-# An address, with the interface if it needs one, and a port.
+# An address and a port. If the address needs an interface, it includes the interface.
 Place = tuple[str, int]
 
 
 def address_of(resolved: tuple) -> str:
-    """Returns an address from `getaddrinfo` in canonical form: an IPv4 address in IPv6 notation becomes IPv4, and the unspecified address becomes the
-    loopback address."""
+    """Returns an address from `getaddrinfo` in canonical form. An IPv4 address in IPv6 notation becomes an IPv4 address, and the
+    unspecified address becomes the loopback address."""
     address = ipaddress.ip_address(resolved[0].partition("%")[0])
     address = getattr(address, "ipv4_mapped", None) or address
     text = LOOPBACK[address.version] if address.is_unspecified else str(address)
@@ -26,7 +26,7 @@ def address_of(resolved: tuple) -> str:
 
 
 def addresses_of(host: str, flags: int = 0) -> list[str]:
-    """Returns the addresses of a host. There may be none."""
+    """Returns the addresses of a host. The list may be empty."""
     try:
         return [address_of(resolved) for *_, resolved in socket.getaddrinfo(host.strip("[]"), None, type=socket.SOCK_STREAM, flags=flags)]
     except (OSError, UnicodeError):
@@ -34,13 +34,13 @@ def addresses_of(host: str, flags: int = 0) -> list[str]:
 
 
 def looked_up(hosts: Iterable[str]) -> dict[str, list[str]]:
-    """Returns the addresses of hosts. A name has no addresses if its lookup takes too long."""
+    """Returns the addresses of hosts. If the lookup of a name takes too long, the name has no addresses."""
     addresses = {host: addresses_of(host, socket.AI_NUMERICHOST) for host in hosts}
 
     def look_up(name: str) -> None:
         addresses[name] = addresses_of(name)
 
-    # A thread whose resolver does not answer continues to run, but does not keep the process alive.
+    # If a resolver does not answer, its thread continues to run, but does not keep the process alive.
     threads = [threading.Thread(target=look_up, args=(host,), daemon=True) for host, numeric in addresses.items() if not numeric]
     until = time.monotonic() + SECONDS
     for thread in threads:
@@ -51,7 +51,7 @@ def looked_up(hosts: Iterable[str]) -> dict[str, list[str]]:
 
 
 def are_same(one: str, other: str) -> bool:
-    """Returns whether two texts HOST:PORT have an address in common now. The hosts are looked up only if the ports are the same."""
+    """Returns whether two texts HOST:PORT currently have an address in common. The hosts are looked up only if the ports are the same."""
     (host, _, port), (other_host, _, other_port) = one.rpartition(":"), other.rpartition(":")
     if int(port) != int(other_port):
         return False
@@ -60,7 +60,7 @@ def are_same(one: str, other: str) -> bool:
 
 
 def refusal(place: Place) -> str:
-    """Returns why the system refuses connections to an address, or an empty text. Nothing is sent."""
+    """Returns the reason why the system refuses connections to an address, or an empty text. This sends nothing."""
     address = ipaddress.ip_address(place[0])
     if address.is_multicast:
         return "a multicast address accepts no connection"
@@ -94,8 +94,8 @@ def takes_connections(place: Place) -> bool:
 
 
 def written(name: str, places: list[Place]) -> str:
-    """Returns a player as an argument for the referee, with the first of its addresses that accepts a connection now, or else with the first
-    address."""
+    """Returns a player as an argument for the referee. The argument contains the first of the player's addresses that accepts a connection
+    now, or the first address if none does."""
     host, port = next(filter(takes_connections, places), places[0]) if len(places) > 1 else places[0]
     return f"{name}@[{host}]:{port}" if ":" in host else f"{name}@{host}:{port}"
 

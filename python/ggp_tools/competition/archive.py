@@ -1,4 +1,4 @@
-"""The archive of a competition: its contents, how `publish` writes it, and how `check` checks it."""
+"""Defines the contents of a competition's archive, writes the archive for `publish`, and checks it for `check`."""
 
 import concurrent.futures
 import errno
@@ -29,7 +29,7 @@ from ggp_tools.referee import VERSION_LINE, Referee, Unchecked, has_events
 SUMS, VERSION, HOW, GAPS = "SHA256SUMS", "VERSION", "CHECK.txt", "GAPS.tsv"
 # The maximum length of VERSION, and the maximum number of errors that are reported for an archive.
 MOST_OF_VERSION, MOST_FAULTS = 100, 100
-# Errors of this computer, which show nothing about an archive.
+# Errors of this computer. They say nothing about an archive.
 SHORTAGES = errno.ENOSPC, errno.EDQUOT, errno.EIO, errno.EMFILE, errno.ENFILE, errno.ENOMEM
 HOW_TO = """How to check this competition.
 
@@ -69,7 +69,7 @@ def files_below(folder: pathlib.Path) -> dict[str, pathlib.Path]:
 
 
 def contents(plan: Plan, referee: Referee, results: list[Result], pages: Iterable[str], known: Known | None = None) -> Iterator[Content]:
-    """Yields the names and contents of the files that are published, with these pages."""
+    """Yields the name and the contents of each file to publish, including these pages."""
     folder = plan.folder
     yield "competition.toml", plan.text
     yield "schedule.tsv", folder.schedule
@@ -97,8 +97,8 @@ def contents(plan: Plan, referee: Referee, results: list[Result], pages: Iterabl
 
 
 def publish(plan: Plan, referee: Referee, results: list[Result], path: pathlib.Path, known: Known) -> str:
-    """Writes the archive, and returns its checksum. The same files always give the same archive. Pages of matches that already exist are not made
-    again."""
+    """Writes the archive, and returns its checksum. The same files always give the same archive. If the page of a match already exists, it
+    is not made again."""
     pages = Pages(plan, True, known).write(results)
     with written_whole(path) as file:
         files = with_sums(contents(plan, referee, results, pages, known))
@@ -142,7 +142,7 @@ def faults_of_sums(folder: pathlib.Path) -> Iterator[str]:
 
 
 def has_bytes(file: pathlib.Path, data: bytes) -> bool:
-    """Returns whether a file has these bytes. A file of another size is not read, since it may be huge."""
+    """Returns whether a file has these bytes. A file of another size is not read, because it may be huge."""
     return file.stat().st_size == len(data) and file.read_bytes() == data
 
 
@@ -150,7 +150,7 @@ def faults_of_files(plan: Plan, referee: Referee, results: list[Result]) -> Iter
     """Yields an error for each file that is missing, that `publish` would write with different contents, or that it would not write at all."""
     folder = plan.folder
     files = {name: file for name, file in files_below(folder.path).items() if not name.startswith("pages/")}
-    # The pages are made again, so those of the archive get a name that no file of an archive has.
+    # The pages are made again for comparison, so those of the archive are moved to a directory whose name no archive contains.
     archived = folder.path.parent / "pages of the archive"
     os.rename(folder.pages, archived) if folder.pages.is_dir() else archived.mkdir()
     files |= {f"pages/{name}": file for name, file in files_below(archived).items()}
@@ -165,7 +165,7 @@ def faults_of_files(plan: Plan, referee: Referee, results: list[Result]) -> Iter
 
 
 def faults_of_matches(plan: Plan, referee: Referee) -> tuple[list[Result], list[str]]:
-    """Returns the results, and the errors in records, call logs and match logs."""
+    """Returns the results of the matches, and the errors in their records, call logs and match logs."""
     results, faults, misfits = check_records(plan, referee)
     checked = results | faults | misfits
     # GAPS.tsv is compared later.
@@ -184,7 +184,7 @@ def version_of(folder: pathlib.Path) -> str:
     """Returns the version of the program with which an archive was published. Refuses an archive whose logs only an earlier version can read."""
     version = file_bytes(folder / VERSION, MOST_OF_VERSION) if (folder / VERSION).is_file() else b""
     if not VERSION_LINE.fullmatch(version):
-        raise Spoilt(f"{VERSION} is not one line `ggp_manager N.N.N`" if version else f"{VERSION} is missing")
+        raise Spoilt(f"{VERSION} is not one line of the form `ggp_manager N.N.N`" if version else f"{VERSION} is missing")
     made_by = version.decode("ascii").strip()
     if not has_events(version):
         raise Spoilt(f"it was published with {made_by}: check it with that version, since its logs are not JSON")
@@ -192,8 +192,8 @@ def version_of(folder: pathlib.Path) -> str:
 
 
 def check_archive(path: pathlib.Path, referee: Referee) -> tuple[list[str], str]:
-    """Returns the errors in an archive, as lines of printable ASCII of limited length. If there are none, also returns a sentence about the
-    checks."""
+    """Returns the errors in an archive, as lines of printable ASCII of limited length. If there are no errors, also returns a sentence
+    about the checks."""
     try:
         with tempfile.TemporaryDirectory() as empty:
             try:
@@ -221,8 +221,8 @@ def compared_side_by_side(file: pathlib.Path, records: Sequence[bytes]) -> list[
 
 
 def compared_matches(plan: Plan, results: list[Result], folder: pathlib.Path) -> tuple[str, list[str]]:
-    """Compares the matches of each game with its description, if the description has variables. Returns a remark about the comparison, and the
-    differences."""
+    """Compares the matches of each game with the game's description, if the description has variables. Returns a remark about the
+    comparison, and the differences."""
     count, not_followed, faults = 0, [], []
     for game in plan.competition.games:
         file, matches = folder / f"games/{game.name}.kif", [result.match for result in results if result.match.game == game.name]
@@ -231,7 +231,7 @@ def compared_matches(plan: Plan, results: list[Result], folder: pathlib.Path) ->
         for match, line in zip(matches, compared_side_by_side(file, [plan.folder.record(match.id).read_bytes() for match in matches])):
             count += line.startswith(IS_SAME)
             if line.startswith(DIFFERS):
-                faults.append(f"{match.id}: compared with games/{game.name}.kif it {line}")
+                faults.append(f"{match.id}: compared with games/{game.name}.kif, it {line}")
             elif not line.startswith(IS_SAME):
                 not_followed.append(f"{match.id} {line}")
     remark = f"; {counted(count, 'match', 'agrees', 'agree')} with descriptions that have variables" if count or not_followed else ""

@@ -1,6 +1,6 @@
-"""Checks call logs ("accounts") and match logs. A call log may only have the calls that the referee of one match makes, because `replay` would also
-accept other calls that change nothing. The match log must have the messages and answers of the call log. Only the match log has times, hosts and
-reasons."""
+"""Checks call logs ("accounts") and match logs. A call log may contain only the calls that the referee of one match makes. `replay` does
+not check this, because it also accepts other calls that change nothing. The match log must have the same messages and answers as the call
+log. Only the match log has times, hosts and reasons."""
 
 import io
 import itertools
@@ -19,21 +19,21 @@ if TYPE_CHECKING:
     from ggp_tools.competition.results import Result
     from ggp_tools.competition.schedule import Match
 
-# The first call of a log, and the calls for a role: the one that asks for its next message, and the one with its answer.
+# The first call of a log, and the calls for a role: the call that asks for the role's next message, and the call with the role's answer.
 OPENING = re.compile(rb"0\t(?:open|(strict)) ([^ \t]+) \d+ (\d{1,5}) (\d{1,5})([^\t]*)\topened")
 NEXT = re.compile(rb"(\d+)\tnext ([^ \t]+) (\d+)\t(?:owe (\d+) ([^ \t]+) ?([^\t]*)|(hold \d+|over))")
 ANSWER = re.compile(rb"(\d+)\t(submit|miss) ([^ \t]+) (\d+) (\d+)(?: ([^\t]*))?\ttaken")
-# While a role waits in a round, it asks every two seconds, more often at first, and up to twice more for each role that wakes it. So it gets fewer
-# `hold` replies than the seconds of the clock, plus twice the number of roles, plus this number. The number suffices for a computer that delays the
-# referee by ten minutes.
+# While a role waits in a round, its worker asks every two seconds, more often at first, and up to twice more each time another role wakes
+# it. So the number of `hold` replies is less than the seconds of the clock, plus twice the number of roles, plus this number, even if the
+# computer delays the referee by ten minutes.
 MOST_HOLDS = 300
 # The history of the referee's desk has at most this many calls.
 MOST_CALLS = 1_000_000
-# The match of any call.
+# Matches any call. The group is the id of the call's match.
 MATCH = re.compile(rb"\d+\t[a-z]+ ([^ \t]+)[ \t]")
 ESCAPED = re.compile(r"\\x([0-9a-f]{2})")
-# The parts of the referee's reasons for an error (docs/ERRORS.md), with N for numbers. After a failed read, the kind of the failure follows in one
-# word.
+# The parts of the reasons that the referee gives for an error (docs/ERRORS.md), with N in place of each number. After a failed read, one
+# more word names the kind of failure.
 REASONS = {
     *("the host has no address", "no connection", "no answer in time", "the answers of the match are too long", "a write failed", "a read failed"),
     *("the head is not valid HTTP", "the status is not N", "the status is N, not N", "the status is N, which announces an answer and is none"),
@@ -50,7 +50,7 @@ ERRORS = {"silent": NO_TIME, "broken": BROKEN}
 
 
 def lines_of(account: bytes) -> Iterator[bytes]:
-    """Yields the lines of a call log one by one, since there may be many."""
+    """Yields the lines of a call log one by one, because there may be many."""
     return (line.removesuffix(b"\n") for line in io.BytesIO(account))
 
 
@@ -58,7 +58,8 @@ def lines_of(account: bytes) -> Iterator[bytes]:
 
 
 class Asked:
-    """The state of the roles' calls: for each role the round whose answer is awaited, how often it got `hold` in a round, and whether its part is over."""
+    """The calls so far: for each role the round whose answer is awaited, how often the role got `hold` in a round, and whether its part is
+    over."""
 
     def __init__(self, opening: re.Match[bytes]) -> None:
         is_strict, self.match, start, play, players = opening.groups()
@@ -72,7 +73,7 @@ class Asked:
         return match == self.match and int(line) == int(role) + 1 and role not in self.over
 
     def may_hold(self, role: bytes, hold: bytes) -> bool:
-        """Counts a reply that makes a role wait. Returns whether a referee would ask this often for the role in this round."""
+        """Counts a reply that makes a role wait. Returns whether a referee could ask this often for the role in this round."""
         before, count = self.holds.get(role, (hold, 0))
         self.holds[role] = hold, count + 1 if before == hold else 1
         return self.holds[role][1] <= MOST_HOLDS + self.clocks[hold != b"hold 0"] + 2 * self.roles
@@ -99,7 +100,7 @@ def shown(text: bytes) -> str:
 
 
 def fault_of_account(account: bytes) -> str | None:
-    """Returns the first line of a call log that is not a call by the match's referee, or None."""
+    """Returns an error about the first row of a call log that is not a call by the match's referee, or None."""
     lines = lines_of(account)
     first = next(lines, b"")
     opening = OPENING.fullmatch(first)
@@ -109,7 +110,7 @@ def fault_of_account(account: bytes) -> str | None:
     for number, text in enumerate(lines, 2):
         if number > MOST_CALLS or not asked.is_next(text):
             named = MATCH.match(text)
-            why = "belongs to another match" if named and named[1] != opening[2] else "is not a call that a referee makes there"
+            why = "belongs to another match" if named and named[1] != opening[2] else "is not a call that a referee would make at this point"
             return f"line {number} of its call log {why}: {shown(text)}"
     return None if len(asked.over) == asked.roles else f"its call log ends after line {number}, before each role's part is over"
 
@@ -118,7 +119,7 @@ def fault_of_account(account: bytes) -> str | None:
 
 
 class Exchange(NamedTuple):
-    """A message with the answer or the error, according to a call log. The call log does not have the description that START carries."""
+    """A message with its answer or its error, according to a call log. The call log does not contain the description that START carries."""
 
     kind: str
     round: int | None
@@ -128,19 +129,19 @@ class Exchange(NamedTuple):
 
 
 def unescaped(text: bytes | None) -> str:
-    """Returns a text of a call log, with a character for each byte."""
+    """Returns a text of a call log, in which each character stands for a byte."""
     return ESCAPED.sub(lambda escape: chr(int(escape[1], 16)), (text or b"").decode("ascii", "replace"))
 
 
 def message_text(match: "Match", role: str, kind: str, joint: str) -> str:
-    """Returns the message that a role was sent; `joint` is the joint move in it."""
+    """Returns the message that was sent to a role. `joint` is the joint move in it."""
     if kind == "START":
         return f"(START {match.id} {role} ... {match.start} {match.play})"
     return f"({kind} {match.id}{' ' * bool(joint)}{joint})"
 
 
 def exchanges(match: "Match", roles: Sequence[str], account: bytes) -> list[list[Exchange]]:
-    """Returns the messages and answers of each role, in order. The call log may only have the calls of the match."""
+    """Returns the messages and answers of each role, in order. The call log must contain only the calls of the match."""
     exchanges_of: list[list[Exchange]] = [[] for _ in roles]
     owed = [("", 0, "")] * len(roles)
     for line in lines_of(account):
@@ -156,7 +157,7 @@ def exchanges(match: "Match", roles: Sequence[str], account: bytes) -> list[list
 
 
 def unpublished(log: bytes, run: Sequence[Event]) -> str | None:
-    """Returns an error about the first line of a match log that `publish` would omit or change, or None."""
+    """If `publish` would omit or change a line of a match log, returns an error about the first such line. Otherwise returns None."""
     lines = itertools.zip_longest(io.BytesIO(log), map(line_of, run), fillvalue=b"")
     number, line = next(((number, given) for number, (given, kept) in enumerate(lines, 1) if given != kept), (0, b""))
     text = message_of(line.decode("ascii", "replace").rstrip())
@@ -164,13 +165,13 @@ def unpublished(log: bytes, run: Sequence[Event]) -> str | None:
 
 
 def has_sound_reason(message: Message) -> bool:
-    """Returns False if the message has a reason but no error, or a reason that the referee never gives."""
+    """Returns False if the message has no error but a reason, or has a reason that the referee never gives."""
     parts = NUMBER.sub("N", message.reason).split(": ") if message.reason is not None else []
     return not parts or message.error is not None and all(part in REASONS or KIND.fullmatch(part) for part in parts)
 
 
 def is_confirmed(match: "Match", event: Event, asked: list[list[Exchange]], last: list[int]) -> bool:
-    """Returns whether a call log agrees with an event. `last` has the number of each role's last message, and is updated."""
+    """Returns whether an event agrees with the call log. Updates `last`, which has the number of each role's last message."""
     if not isinstance(event, Message):
         return not isinstance(event, End) or event.kind in {exchange.kind for of_role in asked for exchange in of_role}
     role = event.role
@@ -182,7 +183,7 @@ def is_confirmed(match: "Match", event: Event, asked: list[list[Exchange]], last
 
 
 def fault_of_run(match: "Match", roles: Sequence[str], run: Sequence[Event], account: bytes) -> str | None:
-    """Returns an error about the first line of a match log that the match's call log does not confirm, or None."""
+    """Returns an error about the first line of a match log that the call log of the match does not confirm, or None."""
     asked, last, has_end = exchanges(match, roles, account), [0] * len(roles), False
     for number, event in enumerate(run, 1):
         is_second = has_end and isinstance(event, End)
@@ -193,7 +194,7 @@ def fault_of_run(match: "Match", roles: Sequence[str], run: Sequence[Event], acc
 
 
 def fault_of_log(plan: "Plan", match: "Match", is_published: bool) -> str | None:
-    """Returns the error in the match log of a match, compared with its call log, or None. A published log may only have the lines that `publish`
+    """Compares a match log with the call log of the match. Returns an error, or None. A published log may contain only lines that `publish`
     writes."""
     log = plan.folder.whole_log(match.id)
     run = last_run(io.BytesIO(log), match.id)

@@ -20,7 +20,7 @@ from ggp_tools.referee import Referee, Unchecked
 
 
 class Checked(NamedTuple):
-    """The result of a match, or why it does not count, and whether the rules of its game are wrong."""
+    """The result of a match, or the reason why it does not count, and whether the rules of its game are wrong."""
 
     result: Result | None = None
     why: str | None = None
@@ -28,8 +28,8 @@ class Checked(NamedTuple):
 
 
 class Checking:
-    """The matches whose files the referee has not checked yet. It checks all matches of a game together that have ended during its last check, which
-    takes about as long as the check of one match."""
+    """The matches whose files the referee has not checked yet. When a check of a game's matches ends, the referee checks all matches of
+    this game together that have ended in the meantime. This takes about as long as the check of one match."""
 
     def __init__(self, plan: Plan, referee: Referee) -> None:
         self.plan, self.referee = plan, referee
@@ -39,15 +39,17 @@ class Checking:
         self.locks: dict[str, asyncio.Lock] = collections.defaultdict(asyncio.Lock)
 
     async def check(self, match: Match, output: bytes, log: pathlib.Path) -> Checked:
-        """Has the referee verify the record and replay the call log in the output of a match, compares the match with the description of its game, and only
-        then writes the files."""
+        """Has the referee verify the record and replay the call log in the output of a match. Compares the match with the description of
+        its game. Writes the files only then."""
         line, end, account = output.partition(b"\n")
         files = line + end, account
         fault = await self.fault_of(match, files)
+        # Threads do this, because they wait for the disk.
         return await asyncio.to_thread(keep_if_right, self.plan, match, files, log, fault)
 
     async def fault_of(self, match: Match, files: tuple[bytes, bytes]) -> str | Unchecked | None:
-        """Returns the error in the files of a match, or why the referee gives no verdict, or None."""
+        """Returns the error in the files of a match. If the referee gives no verdict, returns the reason. If there is no error, returns
+        None."""
         self.waiting[match] = files
         try:
             async with self.locks[match.game]:
@@ -64,13 +66,13 @@ class Checking:
 
 
 def faults_of(plan: Plan, referee: Referee, game: str, files: Sequence[tuple[bytes, bytes]]) -> list[str | Unchecked | None]:
-    """Returns for each match of a game the error in its files, or why the referee gives no verdict, or None."""
+    """Returns, for each match of a game, the error in its files, or the reason why the referee gives no verdict, or None."""
     faults: list[str | Unchecked | None] = [fault_of_files(*each, plan.rules[game].text) for each in files]
     sound = [at for at, fault in enumerate(faults) if not fault]
     try:
         verdicts = referee_faults(plan, referee, game, *zip(*(files[at] for at in sound))) if sound else []
     except Unchecked as why:
-        # Only one of several matches may be the reason.
+        # Of several matches, perhaps only one is the reason.
         verdicts = [why] if len(sound) == 1 else [faults_of(plan, referee, game, [files[at]])[0] for at in sound]
     for at, verdict in zip(sound, verdicts):
         faults[at] = verdict
@@ -91,7 +93,7 @@ def keep_if_right(plan: Plan, match: Match, files: tuple[bytes, bytes], open_log
         file = keep(plan.folder, match.id, *files, log, "differs")
         words = f"{comparison}\n".encode("ascii", "replace")
         report = write_report(plan, match, {"description.kif": description, "record.json": record, "account.txt": account, "words.txt": words})
-        why = f"compared with the description of {match.game} it {comparison}; it is kept as {file}; please report it, with {report}"
+        why = f"compared with the description of {match.game}, it {comparison}; it is kept as {file}; please report this, and include {report}"
         return Checked(None, why, True)
     if comparison:
         why_not = None if comparison.startswith(IS_SAME) else printable(comparison.removeprefix(IS_NOT_FOLLOWED))
@@ -102,13 +104,13 @@ def keep_if_right(plan: Plan, match: Match, files: tuple[bytes, bytes], open_log
 
 
 def compare(plan: Plan, match: Match, record: bytes) -> tuple[bytes | None, str | None]:
-    """Compares a record with the description of its game. Returns the description, and the outcome or the reason why there is none. Both are None if the
-    game was given as ground rules."""
+    """Compares a record with the description of its game. Returns the description, and the outcome or the reason why there is none. If the
+    game was given as ground rules, both are None."""
     game = next(game for game in plan.competition.games if game.name == match.game)
     description, why_not = description_of(plan, game)
     if description is None:
         return None, why_not
-    # The comparison uses a copy, because the file may change meanwhile.
+    # The comparison uses a copy of the file, because the file may change.
     with tempfile.NamedTemporaryFile(dir=plan.folder.open / match.id) as copy:
         copy.write(description)
         copy.flush()

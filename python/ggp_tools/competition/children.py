@@ -1,4 +1,4 @@
-"""The processes that play and check matches, and send ABORT. They always end when this process ends."""
+"""Manages the processes that play and check matches, and sends ABORT. The processes always end when this process ends."""
 
 import asyncio
 import concurrent.futures
@@ -17,7 +17,7 @@ from ggp_tools.processes import APART, WITH_PARENT, ended_words
 from ggp_tools.referee import Referee
 
 MOST_AT_ONCE = 1 << 16
-# At most this many players are sent ABORT at the same time.
+# ABORT is sent to at most this many players at the same time.
 MOST_ABORTS = 1_024
 # After its time limit, a process has this many more seconds, because this process may be late.
 SOON = 0.1
@@ -51,7 +51,7 @@ async def started(words: list[str], ends_itself: bool = False) -> AsyncIterator[
         raise FileNotFoundError(errno.ENOENT, os.strerror(errno.ENOENT), words[0])
     starting = asyncio.create_task(loop.subprocess_exec(Watched, *before, *words, start_new_session=True))
     try:
-        # Without the shield, a cancellation would kill only the started process, and not its children. Then asyncio would wait for these children.
+        # Without the shield, a cancellation would kill the started process but not its children, and asyncio would wait for these children.
         transport, watched = await asyncio.shield(starting)
         yield asyncio.subprocess.Process(transport, watched, loop), watched.ended
     finally:
@@ -65,7 +65,7 @@ async def started(words: list[str], ends_itself: bool = False) -> AsyncIterator[
 
 @dataclass
 class Done:
-    """A process that has ended, with its standard output and error. The status is None if the process ran out of time."""
+    """A process that has ended, with its standard output and its standard error. If the process ran out of time, the status is None."""
 
     status: int | None
     output: bytes
@@ -130,7 +130,7 @@ async def in_thread(threads: concurrent.futures.Executor | None, call: Callable[
 
 
 async def is_answered(referee: Referee, match: str, place: str, slots: asyncio.Semaphore) -> bool:
-    """Sends ABORT to a player. Returns whether the player answered; if the command cannot be run, the player counts as silent."""
+    """Sends ABORT to a player. Returns whether the player answered. If the command cannot be run, the player counts as silent."""
     async with slots:
         try:
             return (await run(referee.abort_words(match, place))).status == 0
@@ -139,8 +139,8 @@ async def is_answered(referee: Referee, match: str, place: str, slots: asyncio.S
 
 
 async def send_aborts(referee: Referee, places: dict[str, list[str]], seconds: float | None = None) -> dict[str, list[str]]:
-    """Sends ABORT for matches that no referee plays any more, to many players at the same time. `places` has the addresses of the players by match
-    id. Returns the players that did not answer within `seconds` (10 if None), also by match id."""
+    """Sends ABORT, to many players at the same time, for matches that no referee plays any more. `places` has the addresses of the players
+    by match id. Returns the players that did not answer within `seconds` (10 if None), also by match id."""
     slots = asyncio.Semaphore(MOST_ABORTS)
     sent = {(match, place): asyncio.create_task(is_answered(referee, match, place, slots)) for match in places for place in places[match]}
     if sent:

@@ -1,4 +1,4 @@
-"""The command line of `ggp_competition`. Because loading takes long, a command loads only the modules that it needs."""
+"""The command line of `ggp_competition`. Loading modules takes long, so a command loads only those that it needs."""
 
 import argparse
 import os
@@ -27,8 +27,8 @@ from ggp_tools.reporting import NOT_BEGUN, Journal, Reporter
 from ggp_tools.streams import PACKED, ready_streams, say, whole
 
 MOST_AT_ONCE = 1_024
-DIRECTORY = "the directory of the competition, with competition.toml (the current one)"
-# If more matches than this are missing for the same reason, they are reported on one line.
+DIRECTORY = "the directory of the competition, with competition.toml (default: the current directory)"
+# If more matches than this are missing for the same reason, one line reports them all.
 MOST_LINES = 10
 HELP = "Runs a competition of game players from one directory, whose file competition.toml describes it."
 STATUS = """exit status 0: success; with `play`, each match has a lawful record. 1: failure. 2: the command or competition.toml is wrong. 3: the referee
@@ -50,28 +50,28 @@ def add_options(command: argparse.ArgumentParser, name: str) -> None:
     elif name == "try":
         add("folder", metavar="DIRECTORY", help="the directory of the competition, or its competition.toml")
         add("player", metavar="PLAYER", help="the name of the player")
-        add("--game", metavar="NAME", help="the game (the first one)")
+        add("--game", metavar="NAME", help="the name of the game (default: the first game)")
     elif name == "why":
         add("folder", metavar="DIRECTORY", help="the directory of the competition, or of an archive that was unpacked")
         add("match", metavar="MATCH", help="the id of the match")
-        add("player", nargs="?", metavar="PLAYER", help="the name of a player (all of the match)")
+        add("player", nargs="?", metavar="PLAYER", help="the name of a player (default: all players of the match)")
     elif name == "table":
         add("folder", nargs="*", default=["."], metavar="DIRECTORY", help=f"{DIRECTORY}; several directories give one table")
-        add("--to", metavar="DIRECTORY", help="where to write the files of a table of several competitions")
+        add("--to", metavar="DIRECTORY", help="the directory for the files of a table of several competitions")
     else:
         add("folder", nargs="?", default=".", metavar="DIRECTORY", help=DIRECTORY)
     if name == "again":
         add("match", metavar="MATCH", help="the id of a match that has a lawful record")
-        add("--reason", required=True, metavar="TEXT", help="the reason, for the table, the pages and the archive")
+        add("--reason", required=True, metavar="TEXT", help="the reason, which the table, the pages and the archive show")
     if name == "plan":
         add("--preview", action="store_true", help="print the matches that it would add, or those of the next round, and write nothing")
     if name == "play":
-        add("--at-once", type=whole(1, MOST_AT_ONCE), default=4, metavar="N", help="at most N matches at once (4)")
+        add("--at-once", type=whole(1, MOST_AT_ONCE), default=4, metavar="N", help="play at most N matches at once (default: 4)")
         add("--watch", action="store_true", help="write the pages again as matches end")
     if name == "serve":
         add_serve(command)
     if name == "publish":
-        add("--to", metavar="FILE", help="the archive (NAME.tar.gz in the directory)")
+        add("--to", metavar="FILE", help="the file of the archive (default: NAME.tar.gz in the directory)")
         add("--gaps", action="store_true", help="publish even if matches have no record; the archive lists them")
 
 
@@ -103,7 +103,8 @@ def write_matches(plan: Plan, results: list[Result], known: Known | None = None)
 
 
 def known_results(plan: Plan, referee: Referee, known: Known | None) -> tuple[list[Result], bool]:
-    """Returns the results that count, in the order of the schedule, and whether there are records that do not count. Reports why these do not."""
+    """Returns the results that count, in the order of the schedule, and whether there are records that do not count. Reports why those do
+    not count."""
     results, faults, misfits = check_records(plan, referee, known)
     for match, why in {**faults, **misfits}.items():
         print(f"ggp_competition: {match} does not count: {why}", file=sys.stderr)
@@ -190,7 +191,7 @@ def run_again(asked: argparse.Namespace, referee: Referee) -> int:
 
 
 def error_of_pages(write: Callable[..., object], *arguments: object) -> str | None:
-    """Writes the pages. Returns an error instead of raising it, so that the matches can continue."""
+    """Writes the pages. Returns errors instead of raising them, so that the matches can continue."""
     try:
         write(*arguments)
         return None
@@ -199,8 +200,9 @@ def error_of_pages(write: Callable[..., object], *arguments: object) -> str | No
 
 
 def missing_rows(missing: dict[str, str]) -> Iterator[tuple[str, list[str]]]:
-    """Yields rows about the missing matches, with the reasons, and for each row the rows of the journal. Many matches with the same reason share a
-    row. In the journal each match that was given up has a row, because the live pages read the reason there."""
+    """Yields rows about the missing matches and their reasons. With each row, yields the rows for the journal. Many matches with the same
+    reason share a row. In the journal, each match that was given up has its own row, because the live pages read the reason from this
+    row."""
     by_reason: dict[str, list[str]] = {}
     for match, why in missing.items():
         by_reason.setdefault(why, []).append(match)
@@ -257,7 +259,7 @@ def play_planned(plan: Plan, asked: argparse.Namespace, referee: Referee) -> int
 
 
 def run_table(asked: argparse.Namespace, referee: Referee) -> int:
-    """Prints and writes the table of a competition, or one table of several."""
+    """Prints the table of a competition, or one table of several competitions, and writes it to files."""
     if asked.to and len(asked.folder) == 1:
         raise Refused("--to: only a table of several directories can be written elsewhere")
     plans = [read_plan(folder, referee) for folder in asked.folder]
@@ -291,7 +293,8 @@ def run_pages(asked: argparse.Namespace, referee: Referee) -> int:
 
 
 def archive_path(plan: Plan, to: str | None) -> pathlib.Path:
-    """Returns the path of the archive. Refuses a missing directory, a file that is not an archive, and the directories of the competition."""
+    """Returns the path of the archive. Refuses a path whose directory does not exist, a file that is not an archive, and a file in a
+    directory of the competition."""
     path = pathlib.Path(to or plan.folder.path / f"{plan.competition.name}.tar.gz")
     if path.exists() and not path.is_file():
         raise Refused(f"{path} is not a regular file: `--to` must name the file of the archive")
@@ -310,7 +313,7 @@ def run_publish(asked: argparse.Namespace, referee: Referee) -> int:
     from ggp_tools.competition.archive import publish
     from ggp_tools.competition.packing import TooLarge
 
-    # Locking keeps other runs from changing the plan until the archive is written.
+    # The lock keeps other runs from changing the plan until the archive is written.
     with held(asked.folder):
         plan = read_plan(asked.folder, referee)
         path, known = archive_path(plan, asked.to), Known(plan.folder.path)
@@ -318,7 +321,7 @@ def run_publish(asked: argparse.Namespace, referee: Referee) -> int:
         missing, left = len(without_record(plan, results)), rounds_left(plan)
         faults = []
         if missing and (is_faulty or not asked.gaps):
-            # A wrong record is not a gap: you must play the match again or correct the record.
+            # A wrong record is not a gap. It must be corrected, or the match must be played again.
             faults = [f"{counted(missing, 'match', 'has', 'have')} no lawful record{'' if is_faulty else '; `--gaps` publishes the others'}"]
         elif left and not asked.gaps:
             faults = [f"{left} of {left + len(plan.rounds)} rounds are not planned yet; `--gaps` publishes without them"]
@@ -346,7 +349,7 @@ def run_why(asked: argparse.Namespace, referee: Referee) -> int:
     from ggp_tools.competition.why import explanation
 
     for line in explanation(read_plan(asked.folder, referee), asked.match, asked.player):
-        # The directory may come from an archive, whose journal and logs may have any bytes.
+        # The directory may come from an archive. In this case, its journal and logs may contain any bytes.
         say(printable(line))
     return 0
 
@@ -387,7 +390,7 @@ COMMANDS = {
 def main() -> int:
     ready_streams()
     asked = arguments(sys.argv[1:])
-    # An archive that can't be read, or whose check is interrupted, has not failed the check.
+    # If an archive can't be read, or its check is interrupted, it has not failed the check.
     interrupted = 3 if asked.run is run_check else 1
     try:
         referee = Referee(find_program(asked.program))

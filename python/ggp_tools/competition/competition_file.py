@@ -16,14 +16,15 @@ PLAYER_NAME = re.compile(r"[A-Za-z0-9_.-]{1,64}")
 ADDRESS = re.compile(r"(\[[0-9A-Fa-f:.]+(?:%[A-Za-z0-9_.-]+)?\]|[A-Za-z0-9_.-]+):([0-9]{1,5})")
 MARK = b"\xef\xbb\xbf"
 CONTROL = re.compile(r"[\x00-\x1f\x7f-\x9f]")
-# The maximum number of characters of a key or a value in a message, and of mistakes that are reported for a file.
+# The maximum number of characters that a message quotes of a key or a value, and the maximum number of mistakes that are reported for a
+# file.
 MOST_SHOWN, MOST_MISTAKES = 200, 100
 # The maximum size of the file.
 MOST_OF_COMPETITION = 4 << 20
 # The maximum number of matches at a time, for a player and for a launcher.
 MOST_AT_A_TIME = 1_024
 MOST_SECONDS, MOST_STRIKES, MOST_PLAYERS, MOST_GAMES, MOST_ROUNDS, MOST_PORT = 86_400, 255, 1_000, 1_000, 1_000, 65_535
-# When a player with a command is restarted: if it is dead, for each match, or never.
+# When a player with a command is restarted: when it is dead, for each match, or never.
 RESTARTS = WHEN_DEAD, EACH_MATCH, NEVER = "when_dead", "each_match", "never"
 PORT = "{port}"
 RUNS_ELSEWHERE = "a program that runs its arguments on another machine"
@@ -35,10 +36,10 @@ QUEUE_SECONDS, MOST_QUEUE_SECONDS = 3_600, 604_800
 INSTANTIATING, MOST_INSTANTIATING = 60, 1_000_000
 # The forms that plan each round from the results of the previous one.
 ROUND_KINDS = SWISS, KNOCKOUT = "swiss", "knockout"
-# The keys of each kind besides `kind`.
+# For each kind, its keys other than `kind`.
 KINDS = {"round_robin": ("rounds",), "gauntlet": ("rounds", "one"), "schedule": ("lines",), SWISS: ("rounds", "final"), KNOCKOUT: ()}
 ABSENT = ("leave", "play")
-# What happens to the finished matches of a withdrawn player: they count, or they do not.
+# Whether the finished matches of a withdrawn player count.
 WITHDRAWN_RESULTS = KEEP, VOID = "keep", "void"
 REASON = re.compile(r"(?! )[\x20-\x7e]{1,200}(?<! )")
 # How the ids of the matches are made.
@@ -70,7 +71,7 @@ class Mistaken(Exception):
 
 
 def mistake_lines(path: object, mistakes: Sequence[Mistake]) -> str:
-    """Returns the first mistakes of a file, a line for each, and how many more there are."""
+    """Returns a line for each of the first mistakes of a file, and a line that says how many more there are."""
     lines = [f"{path}:{mistake.line}: {mistake.key + ': ' if mistake.key else ''}{mistake.words}" for mistake in mistakes[:MOST_MISTAKES]]
     more = [f"{path}: {counted(len(mistakes) - MOST_MISTAKES, 'more mistake')}"] if len(mistakes) > MOST_MISTAKES else []
     return "\n".join([*lines, *more])
@@ -85,7 +86,7 @@ class Text:
 
 
 def spelled(value: object) -> str:
-    """Returns a value of the file in the form that messages show."""
+    """Formats a value of the file for messages."""
     if isinstance(value, dict | list):
         return "a table" if isinstance(value, dict) else "an array"
     if isinstance(value, bool):
@@ -104,7 +105,7 @@ def is_address(text: str) -> bool:
 
 
 class Section:
-    """A table that is read key by key. Its mistakes are collected with their lines and keys."""
+    """A table whose keys are read one by one. Collects mistakes with their lines and keys."""
 
     def __init__(self, table: dict, path: Path, lines: dict[Path, int], mistakes: list[Mistake]) -> None:
         self.table, self.path, self.lines, self.mistakes = table, path, lines, mistakes
@@ -127,7 +128,7 @@ class Section:
         return kind(**{of.name: of.metadata["read"](self, of.name) for of in fields(kind) if of.name not in given and "read" in of.metadata}, **given)
 
     def part(self, key: str, kind: type, default: object = None) -> Any:
-        """Returns a table within this one as an object of this class, or the default if it is missing."""
+        """Returns a table within this table as an object of this class. If it is missing, returns the default."""
         if key not in self.table:
             return default
         section = self.section(key)
@@ -140,7 +141,8 @@ class Section:
                 self.mistake(key, f"this key is now {RENAMED[key]}" if RENAMED.get(key) in keys else f"no such key; expected one of {', '.join(keys)}")
 
     def value(self, key: str, kind: type, what: str, default: Any) -> Any:
-        """Returns the value of the key, or the default if it is missing or of another kind. If there is no default, the key must exist."""
+        """Returns the value of the key. If the key is missing or its value is of another kind, returns the default. Without a default, the
+        key must exist."""
         if key not in self.table:
             if default is None:
                 self.mistake(key, "the key is missing")
@@ -151,7 +153,8 @@ class Section:
         return self.table[key]
 
     def text(self, key: str, default: str | None = None, what: str = "", is_valid: Callable[[str], object] = bool) -> str | None:
-        """Returns the text of the key, or the default if it is missing or not a text. If `what` is given, the text must be valid."""
+        """Returns the text of the key. If the key is missing or its value is not a text, returns the default. If `what` is given, the text
+        must be valid."""
         found = self.value(key, str, "a text in quotes", default)
         if what and found is not None and found is self.table.get(key) and not is_valid(found):
             self.expected(key, what, found)
@@ -178,7 +181,7 @@ class Section:
         return self.text(key, None, f"a name of 1 to {longest} letters, digits, `-`, `_` and `.`{more}", form.fullmatch)
 
     def reason(self, key: str) -> str | None:
-        """Returns a reason: an empty one for `true`, None for `false` or if the key is missing."""
+        """Returns a reason. For `true`, the reason is empty. For `false`, or if the key is missing, returns None."""
         found = self.table.get(key, False)
         if type(found) is bool:
             return "" if found else None
@@ -197,7 +200,7 @@ class Section:
         return found
 
     def words(self, key: str, what: str, is_needed: bool = True) -> tuple[str, ...]:
-        """Returns the words of a command. The list is empty if they are invalid, or if the key is missing and not needed."""
+        """Returns the words of a command. If the words are invalid, or if the key is missing and not needed, the list is empty."""
         if key not in self.table and not is_needed:
             return ()
         words = tuple(word.text for word in self.texts(key))
@@ -210,7 +213,7 @@ class Section:
         return self.text(key, None, f"HOST:PORT, with a port from 1 to {MOST_PORT:,}", is_address)
 
     def memory(self, key: str) -> int:
-        """Returns the bytes of memory that a player may use; 0 if there is no limit."""
+        """Returns the number of bytes of memory that a player may use, or 0 if there is no limit."""
         text = self.text(key, "", 'a number with K, M, G or T, such as "512M"', lambda text: not text or MEMORY.fullmatch(text))
         return int(text[:-1]) << (10 * (1 + "KMGT".index(text[-1]))) if text else 0
 
@@ -234,7 +237,7 @@ class Section:
         return found
 
     def names(self, key: str) -> set[str]:
-        """Returns the names in an array of tables, even if the rest of it is invalid."""
+        """Returns the names in an array of tables, even if other values in the array are invalid."""
         tables = self.table.get(key)
         return {str(table.get("name")) for table in tables if isinstance(table, dict)} if isinstance(tables, list) else set()
 
@@ -258,12 +261,13 @@ class Section:
 
 
 def read_by(read: Callable, *limits: object, key: str = "", **more: object) -> Any:
-    """Returns a field that a method of a section reads, within these limits, from the given key or from the key with the field's name."""
+    """Returns a dataclass field that a method of `Section` reads within these limits. The key has the field's name, unless `key` is
+    given."""
     return field(metadata={"read": lambda section, name: read(section, key or name, *limits), "key": key}, **more)
 
 
 def line_of(key: str = "") -> Any:
-    """Returns a field that is the line of a key, or of its table."""
+    """Returns a dataclass field that has the line of a key, or the line of the table if no key is given."""
     return field(metadata={"read": lambda section, _: section.line(key), "is_line": True})
 
 
@@ -274,8 +278,8 @@ def keys_of(kind: type) -> list[str]:
 
 @dataclass(frozen=True)
 class Game:
-    """A game. `described` is the description with variables if `file` is ground. `instantiate` is the time limit for making it ground, in seconds.
-    With `aborts` its random matches may be aborted. `board` says how pages draw its boards."""
+    """A game. If `file` is a ground description, `described` may name the description with variables. `instantiate` is the time limit of
+    grounding in seconds. With `aborts`, random matches of the game may be aborted. `board` says how pages draw its boards."""
 
     name: str = read_by(Section.name, NAME, 40, FIRST)
     file: str = read_by(Section.path_of_file)
@@ -297,8 +301,8 @@ class Game:
 
 @dataclass(frozen=True)
 class Command:
-    """How the competition starts a player. In the command and in the environment, `{port}` is replaced with the port of the player. Without a
-    launcher, the player runs on this computer. A `memory` or `processors` of 0 sets no limit."""
+    """How the competition starts a player. In the command and in the environment, `{port}` is replaced with the port of the player. Without
+    a launcher, the player runs on this computer. If `memory` or `processors` is 0, there is no such limit."""
 
     words: tuple[str, ...] = read_by(Section.words, "the program, then its arguments", key="command")
     launcher: tuple[str, ...] = read_by(Section.words, RUNS_ELSEWHERE, False)
@@ -313,8 +317,8 @@ class Command:
 
 @dataclass(frozen=True)
 class Player:
-    """A player, and how many matches it may play at a time. It has an address, or a command that starts it. If it has withdrawn, it has a reason,
-    which may be empty."""
+    """A player, and how many matches it may play at a time. It has either an address or a command that starts it. If it has withdrawn,
+    `withdrawn` is the reason, which may be empty."""
 
     name: str = read_by(Section.name, PLAYER_NAME, 64)
     address: str = read_by(Section.address)
@@ -338,15 +342,16 @@ class Launcher:
 
 @dataclass(frozen=True)
 class Faults:
-    """A player loses a match if `replaced` of its moves were replaced in turns in which it had a choice. 0 means that there is no limit."""
+    """A player loses a match if `replaced` of its moves were replaced in turns in which it had a choice. If `replaced` is 0, there is no
+    limit."""
 
     replaced: int = read_by(Section.number, 1, MOST_TURNS)
 
 
 @dataclass(frozen=True)
 class Form:
-    """The pairing: a round robin, a gauntlet of one player against all others, a schedule whose lines have a game and its players, a Swiss
-    competition, or a knockout. After the rounds of a Swiss competition, the `final` best players may play a knockout."""
+    """The pairing: a round robin, a gauntlet of one player against all others, a schedule in which each line has a game and its players, a
+    Swiss competition, or a knockout. After the rounds of a Swiss competition, the `final` best players may play a knockout."""
 
     kind: str
     rounds: int
@@ -384,7 +389,7 @@ class Competition:
     lines: Mapping[Path, int] = field(default_factory=dict, compare=False, repr=False, metadata={"is_line": True})
 
     def line_of(self, *key: str) -> int:
-        """Returns the line of a key, or of the table that lacks it; 0 if there is none."""
+        """Returns the line of a key, or of the table that lacks the key. If there is neither, returns 0."""
         return next((self.lines[key[:end]] for end in range(len(key), 0, -1) if key[:end] in self.lines), 0)
 
     def player(self, name: str) -> Player:
@@ -400,7 +405,7 @@ class Competition:
 
 
 def refuse_twice(sections: list[Section], key: str) -> None:
-    """Refuses a value of the key if an earlier section has the same value."""
+    """If two sections have the same value of a key, refuses the later one."""
     known = {}
     for section in sections:
         if type(value := section.table.get(key)) is str and known.setdefault(value, section) is not section:
@@ -408,7 +413,7 @@ def refuse_twice(sections: list[Section], key: str) -> None:
 
 
 def games_of(root: Section, clocks: dict[str, int | None]) -> tuple[Game, ...]:
-    """Returns the games. If a game lacks a clock, it gets the one in `clocks`."""
+    """Returns the games. A game without a clock gets the one in `clocks`."""
     found, sections = [], root.sections("games", MOST_GAMES)
     for section in sections:
         section.refuse_others(keys_of(Game))
@@ -519,7 +524,7 @@ def read_competition(data: bytes) -> Competition:
     found = root.read(Competition, **clocks, form=form_of(root), games=games_of(root, clocks), players=players_of(root), lines=root.lines)
     kind = found.form.kind
     if "order" in root.table and kind in ROUND_KINDS:
-        root.mistake("order", f"the kind {kind} has its own order")
+        root.mistake("order", f"the kind {kind} determines the order, so this key is not allowed")
     for key in ("absent_rounds", "pause") if kind not in ROUND_KINDS else ():
         if key in root.table:
             root.mistake(key, f"only the kinds {' and '.join(ROUND_KINDS)} have this key")

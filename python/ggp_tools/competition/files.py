@@ -1,4 +1,4 @@
-"""The files of a competition: their paths, and how they are read and written."""
+"""Defines the paths of a competition's files, and how they are read and written."""
 
 import contextlib
 import errno
@@ -17,11 +17,12 @@ if TYPE_CHECKING:
     from ggp_tools.competition.competition_file import Game
 
 UNFINISHED = ".unfinished-"
-# The file in the directory of an open match that names its players. They must be sent ABORT if no referee plays the match any more.
+# The file in the directory of an open match that names the players. If no referee plays the match any more, these players must be sent
+# ABORT.
 PLAYERS = "players"
 # The stages of an open match. The stage is the name of an empty file in the match's directory.
 STAGES = ASKING, PLAYING, CHECKING = "asking", "playing", "checking"
-# Enough open files for the maximum numbers of matches at the same time, and of connections.
+# A number of open files that suffices for the maximum numbers of matches at the same time, and of connections.
 DESCRIPTORS = 16_384
 # The maximum size of a file of a plan that is read as a whole.
 MOST_OF_PLANNED = 64 << 20
@@ -38,7 +39,7 @@ class Refused(Exception):
 
 
 def allow_files() -> int:
-    """Lets this process open enough files, or as many as the system allows. Returns the number."""
+    """Raises the limit of open files to this number, or as far as the system allows. Returns the new limit."""
     soft, hard = resource.getrlimit(resource.RLIMIT_NOFILE)
     most = max(soft, min(hard, DESCRIPTORS))
     resource.setrlimit(resource.RLIMIT_NOFILE, (most, hard))
@@ -59,7 +60,7 @@ def held(path: pathlib.Path) -> Iterator[None]:
         except BlockingIOError:
             raise Refused(f"{path}: another command is planning, playing or publishing this competition") from None
         except OSError as why:
-            # Some network file systems have no locks, so another run would not be noticed.
+            # Some network file systems have no locks. Without a lock, another run would go unnoticed.
             raise Refused(f"{path} can't be locked: {why.strerror}") from None
         yield
     finally:
@@ -67,8 +68,8 @@ def held(path: pathlib.Path) -> Iterator[None]:
 
 
 def lock_place(folder: str | pathlib.Path) -> str:
-    """Returns how /proc/locks names a directory: by its device and its inode number. The device is that of the mount, because some file systems
-    report a different one for their files."""
+    """Returns how /proc/locks names a directory: by its device and its inode number. The device is that of the mount, because some file
+    systems report a different device for their files."""
     descriptor = os.open(folder, os.O_PATH | os.O_CLOEXEC)
     try:
         mount = pathlib.Path(f"/proc/self/fdinfo/{descriptor}").read_text("ascii").partition("mnt_id:")[2].split()[0]
@@ -91,14 +92,15 @@ def sync(folder: pathlib.Path) -> None:
 
 
 def private(name: str, flags: int) -> int:
-    """Opens a file that is private if it is new."""
+    """Opens a file. If the file is new, only its owner can read it."""
     return os.open(name, flags, PRIVATE)
 
 
 @contextlib.contextmanager
 def written_whole(path: pathlib.Path, is_lasting: bool = True, is_private: bool = False) -> Iterator[BinaryIO]:
-    """Yields a file to write to. The file has a temporary name until it is complete, so a partly written file never has the final name. With
-    `is_lasting`, the file is on the disk at the end; otherwise it may be lost if the computer crashes. After an error, no file is left."""
+    """Yields a file to write to. The file has a temporary name until it is complete, so a partly written file never has the final name.
+    With `is_lasting`, the file is on the disk at the end. Otherwise, it may be lost if the computer crashes. If there is an error, no file
+    is left."""
     path = pathlib.Path(path)
     # Two runs may write the same file, so each uses a different temporary name.
     other = path.with_name(f"{UNFINISHED}{os.getpid()}-{path.name}")
@@ -116,7 +118,7 @@ def written_whole(path: pathlib.Path, is_lasting: bool = True, is_private: bool 
         with contextlib.suppress(OSError):
             other.unlink()
         if isinstance(why, OSError) and why.filename in (None, str(other)):
-            # Errors of writes do not name the file, and the temporary name would mean nothing to a reader.
+            # An error of a write does not name the file, and the temporary name would mean nothing to a reader.
             raise OSError(why.errno, why.strerror, str(path)) from None
         raise
     if is_lasting:
@@ -124,13 +126,13 @@ def written_whole(path: pathlib.Path, is_lasting: bool = True, is_private: bool 
 
 
 def write_whole(path: pathlib.Path, data: bytes, is_lasting: bool = True, is_private: bool = False) -> None:
-    """Writes a file completely or not at all."""
+    """Writes a file, completely or not at all."""
     with written_whole(path, is_lasting, is_private) as file:
         file.write(data)
 
 
 def drop_unfinished(folder: pathlib.Path) -> None:
-    """Deletes unfinished files of ended processes in a directory. This process must not be writing files in it."""
+    """Deletes unfinished files of processes that have ended from a directory. This process must not be writing files in the directory."""
     for file in folder.glob(f"{UNFINISHED}*"):
         # The name contains the id of the process that writes the file.
         number = file.name.removeprefix(UNFINISHED).partition("-")[0]
@@ -144,7 +146,8 @@ def new_file(path: str | pathlib.Path) -> BinaryIO:
 
 
 def opened_file(path: str | pathlib.Path, flags: int = 0) -> BinaryIO:
-    """Opens a regular file for reading, and refuses anything else: a pipe would block the reader until somebody writes to it."""
+    """Opens a regular file for reading. Refuses all other files, for example a pipe, which would block the reader until somebody writes to
+    it."""
     descriptor = os.open(path, os.O_RDONLY | os.O_NONBLOCK | os.O_CLOEXEC | flags)
     kind = os.fstat(descriptor).st_mode
     if not stat.S_ISREG(kind):
@@ -165,18 +168,18 @@ class Folder:
         self.path = pathlib.Path(path)
         self.competition = self.path / "competition.toml"
         self.schedule = self.path / "schedule.tsv"
-        # The competition.toml that `plan` read last, the earlier ones, and the matches that are played again.
+        # The competition.toml that `plan` read last; the earlier versions; the matches that are played again.
         self.planned, self.earlier, self.again = self.path / "planned.toml", self.path / "earlier", self.path / "again.tsv"
         # The key from which random ids of matches are computed.
         self.key = self.path / "ids.key"
-        # The table of another competition from which the seeds come.
+        # The table of another competition, from which the seeds come.
         self.seeds = self.path / "seeds.csv"
         self.rules, self.open = self.path / "rules", self.path / "open"
         # The checksums of the rules, and of the descriptions from which `plan` made them.
         self.rule_sums, self.description_sums = self.rules / "SHA256SUMS", self.rules / "DESCRIPTIONS.sha256"
         self.records, self.accounts, self.logs = (self.path / name for name in ("records", "accounts", "logs"))
         self.matches, self.pages = self.path / "matches.jsonl", self.path / "pages"
-        # The journal has the actions of `play`, with their times. The directory `players` has the logs of the players that `play` starts.
+        # The journal has the actions of `play` with their times. The directory `players` has the logs of the players that `play` starts.
         self.journal, self.players = self.path / "play.log", self.path / "players"
 
     def rules_of(self, game: str) -> pathlib.Path:
@@ -191,7 +194,7 @@ class Folder:
         return [self.rules_of(game.name), *([self.player_rules_of(game.name)] if game.tells_variables() else [])]
 
     def description(self, game: "Game") -> pathlib.Path:
-        """Returns the file of a game's description. If competition.toml names ground rules too, this is the description with variables."""
+        """Returns the file of a game's description. If competition.toml also names ground rules, this is the description with variables."""
         return self.path / (game.described or game.file)
 
     def record(self, match: str) -> pathlib.Path:
@@ -211,7 +214,7 @@ class Folder:
         return self.log(match).is_file()
 
     def whole_log(self, match: str) -> bytes:
-        """Returns the log of a match. It is empty if the file is missing: the match counts, but its times are unknown."""
+        """Returns the log of a match. If the file is missing, the log is empty: the match counts, but its times are unknown."""
         return file_bytes(self.log(match)) if self.has_log(match) else b""
 
     def read_log(self, match: str) -> bytes:
@@ -223,12 +226,13 @@ class Folder:
         return last_run(io.BytesIO(self.whole_log(match)), match)
 
     def part_of_log(self, match: str, most: int) -> tuple[bytes, bool]:
-        """Returns the last whole lines of a match's log with at most this many bytes, and whether there are more. A missing log is empty."""
+        """Returns the last whole lines of a match's log, with at most this many bytes in total, and whether there are more lines. If the
+        log is missing, there are no lines."""
         if not self.has_log(match):
             return b"", False
         with opened_file(self.log(match)) as file:
             if is_cut := (size := os.fstat(file.fileno()).st_size) > most:
-                # A part that does not follow the end of a line begins within a line, which is left out.
+                # If the part does not begin at the beginning of a line, its first line is incomplete and left out.
                 file.seek(size - most - 1)
                 file.readline(most)
             return file.read(most), is_cut
@@ -238,7 +242,7 @@ class Folder:
         return os.path.realpath(self.path)
 
     def refuse_old_logs(self) -> None:
-        """Refuses a competition that was played with a version that did not write its logs as JSON."""
+        """Refuses a competition that was played with a version whose logs are not JSON."""
         if old := next(self.logs.glob("*.txt"), None):
             raise Refused(f"{old} is a log of ggp_manager 0.2.0", "use that version for this competition")
 
@@ -251,10 +255,10 @@ class Folder:
 
     def make(self, *folders: pathlib.Path) -> None:
         """Creates missing directories, and waits until they are on the disk, like the files in them. Only the owner can read the directory of open
-        matches."""
+        matches, and a new one of players: their logs may grow with each answer."""
         for folder in (self.path, *folders):
             if not folder.is_dir():
-                folder.mkdir(parents=True, exist_ok=True)
+                folder.mkdir(0o700 if folder == self.players else 0o777, parents=True, exist_ok=True)
                 sync(folder.parent)
             if folder == self.open:
                 folder.chmod(0o700)

@@ -24,13 +24,13 @@ ends in time, or a record differs from the expected one. 2: the command is wrong
 example because the referee or the grounder was killed or is out of memory, or no temporary file can be written.
 """
 MOST_MATCHES, MOST_SEED = 10_000, 10**18
-# The maximum number of listed seeds, and of bytes of a state.
+# The maximum number of seeds that are listed, and the maximum number of bytes of a state.
 LISTED, MOST_STATE = 10, 500
-# `plan` tries at most this many matches until one ends, and begins no turn after this many seconds.
+# `plan` plays random matches until one of them ends, but at most this many, and begins no turn after this many seconds.
 TRIAL_MATCHES, TRIAL_SECONDS = 5, 10
-# The last line of `ggp-instantiate` if the error is not one of the description.
+# The last line of `ggp-instantiate` if it failed for a reason other than an error in the description.
 NO_VERDICT = re.compile(
-    r"ggp-instantiate ended with status .*|ggp-instantiate: (error: |gringo is not installed|gringo took ).*|.*: can't open file .*"
+    r"ggp-instantiate ended with status .*|ggp-instantiate: (error: |gringo is not installed|gringo took |gringo ran ).*|.*: can't open file .*"
     r"|([a-z_]+\.)*[A-Z]\w*(Error|Exception|Interrupt)\b.*"
 )
 
@@ -41,12 +41,12 @@ def add_game(commands: Any) -> argparse.ArgumentParser:
     command.add_argument("file", metavar="FILE", help="the description, with or without variables")
     command.add_argument("--large", action="store_true", help="use the limits for large games at once")
     seconds = whole(1, MOST_SECONDS)
-    command.add_argument("--matches", type=whole(0, MOST_MATCHES), default=20, metavar="N", help="play N random matches (20)")
-    text = "the seed of the first match (1); each later match uses the next number"
+    command.add_argument("--matches", type=whole(0, MOST_MATCHES), default=20, metavar="N", help="play N random matches (default: 20)")
+    text = "the seed of the first match (default: 1); each later match uses the next number"
     command.add_argument("--seed", type=whole(0, MOST_SEED), default=1, metavar="S", help=text)
-    text = "the processor time for making a description with variables ground (60)"
+    text = "the limit of processor time for grounding a description with variables, in seconds (default: 60)"
     command.add_argument("--instantiate", type=seconds, default=INSTANTIATING, metavar="T", help=text)
-    text = "search for at most T seconds, and begin no turn after T seconds of matches (60)"
+    text = "search for suspicious sentences for at most T seconds, and begin no turn after T seconds of matches (default: 60)"
     command.add_argument("--seconds", type=seconds, default=60, metavar="T", help=text)
     return command
 
@@ -91,13 +91,13 @@ def load(path: pathlib.Path, text: bytes, referee: Referee, limit: int) -> Rules
         *more, last = str(why).splitlines()
         if NO_VERDICT.fullmatch(last):
             # The message is the same if the grounder was killed.
-            last = f"{last}, or was killed" if "gringo took" in last else last
+            last = f"{last}, or it was killed" if "gringo ran out of memory" in last else last
             raise Unchecked(f"ggp-instantiate gave no verdict for {path}: {'; '.join([last, *more])}") from None
         raise
 
 
 def report_game(reporter: Reporter, asked: argparse.Namespace, referee: Referee, path: pathlib.Path, text: bytes) -> bool:
-    """Reports on a description, and returns whether it is refused or its matches show an error."""
+    """Reports on a description. Returns whether the description is refused, or whether its matches show an error."""
     from ggp_tools.descriptions.refused import why_refused
 
     reporter.draw("the description")
@@ -141,7 +141,7 @@ def report_suspicions(reporter: Reporter, asked: argparse.Namespace, text: bytes
 
 
 def report_matches(reporter: Reporter, asked: argparse.Namespace, referee: Referee, text: bytes, rules: Rules) -> bool:
-    """Plays random matches, and reports how they ended. Returns whether one of them showed an error, or none ended."""
+    """Plays random matches, and reports how they ended. Returns whether one of them showed an error, or whether none ended."""
     from ggp_tools.descriptions.goals import goals_said
     from ggp_tools.descriptions.random_matches import RandomMatches
 
@@ -196,8 +196,8 @@ def report_figures(reporter: Reporter, roles: Sequence[str], ended: list) -> Non
 
 
 def trial(rules: bytes, referee: Referee, name: str) -> tuple[str | None, str | None]:
-    """Plays random matches of a game before it is planned: if none of them ends, the description is most likely wrong. Returns the error, and a note
-    if there is no verdict. Both are None if a match ends."""
+    """Plays random matches of a game before it is planned. If none of them ends, the description is most likely wrong. Returns the error,
+    and a note if there is no verdict. Both are None if a match ends."""
     from ggp_tools.descriptions.random_matches import RandomMatches, TimeIsOver
 
     reporter = Reporter()
@@ -208,12 +208,12 @@ def trial(rules: bytes, referee: Referee, name: str) -> tuple[str | None, str | 
             if not played.ended[-1].cause:
                 return None, None
     except TimeIsOver:
-        return None, f"no random match of it ended within {TRIAL_SECONDS} s; `ggp_competition game` tries longer"
+        return None, f"none of its random matches ended within {TRIAL_SECONDS} s; `ggp_competition game` tries for longer"
     except RecursionError:
         return None, "it was not tested: its rules depend on one another too deeply"
     finally:
         reporter.clear()
     causes = ", ".join(dict.fromkeys(match.cause for match in played.ended))
     if all(match.turns == 0 for match in played.ended):
-        return f"no match of it can begin: it is aborted at the start with `{causes}`", None
+        return f"none of its matches can begin: each is aborted at the start with `{causes}`", None
     return f"all of {TRIAL_MATCHES} random matches were aborted, with `{causes}`", None

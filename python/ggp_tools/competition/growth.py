@@ -1,8 +1,8 @@
-"""The schedule of a competition that grows: after the first match you may add rounds, players, games and pairings, and order rematches. The planned
-matches stay as they are, and the new ones follow them.
+"""The schedule of a competition that grows: after the first match you may add rounds, players, games and pairings, and order rematches. The
+planned matches stay as they are, and the new ones follow them.
 
-The schedule follows from all versions of competition.toml, and from the rematches. Each version adds the matches that it requests and that the
-previous version did not request. If players are added, a game of more than two roles gets the matches in which a new player plays."""
+The schedule follows from all versions of competition.toml, and from the rematches. Each version adds those matches that it requests but the
+previous version did not. If players are added, a game of more than two roles gets the matches in which a new player plays."""
 
 import itertools
 from collections import Counter
@@ -18,12 +18,12 @@ from ggp_tools.printable import counted
 
 # A game and its players in the order of the roles.
 GameAndPlayers = tuple[str, tuple[str, ...]]
-# Looks up the result of a match, or None if it is unknown.
+# A function that returns the result of a match, or None if the result is unknown.
 ResultOf = Callable[[Match], Result | None]
 
 
 class Misfit(Exception):
-    """The reason why a schedule can't grow in this way, and the line of competition.toml with the error, if there is one."""
+    """The reason why a schedule can't grow in this way. If the error is in competition.toml, `line` is its line."""
 
     def __init__(self, words: str, line: int = 0) -> None:
         super().__init__(words)
@@ -45,8 +45,8 @@ class Again:
 
 @dataclass(frozen=True)
 class History:
-    """The earlier versions of competition.toml, each with the number of planned matches when the next one replaced it. Then the rematches, and the
-    key from which random ids of matches are computed."""
+    """The earlier versions of competition.toml, each with the number of matches that were planned when the next version replaced it; the
+    rematches; and the key from which random ids of matches are computed."""
 
     earlier: tuple[tuple[int, Competition], ...] = ()
     again: tuple[Again, ...] = ()
@@ -75,7 +75,7 @@ def fixed(competition: Competition) -> dict[str, object]:
     found = {"form.kind": form.kind, "faults.replaced": competition.faults.replaced}
     found |= {key: getattr(competition, key) for key in ("name", "ids", "seeds", "strikes", "forfeit", "order", "anchor")}
     if is_by_rounds(competition):
-        # The pairs of later rounds follow from these too.
+        # These values also determine the pairs of later rounds.
         found |= {"form.final": form.final, "the number of games": len(competition.games)}
         found |= {"form.rounds": form.rounds} if form.final else {}
         found |= {"the number of players": len(competition.players)} if form.kind == KNOCKOUT else {}
@@ -122,12 +122,12 @@ class Growing:
         self.places: dict[str, int] = {}
         self.again = {order.match: order for order in history.again}
         self.rounds = Rounds()
-        # The matches that the last version asks for.
+        # The matches that the last version requests.
         self.asked: list[GameAndPlayers] = []
 
     def take(self, before: Competition | None, competition: Competition, until: int | None, most: int | None) -> None:
-        """Plans the matches that a version adds, and its rematches. If another version follows, plans up to `until` matches. No round begins after
-        `most` matches."""
+        """Plans the matches that a version adds, and its rematches. If another version follows, plans only up to `until` matches. After
+        `most` matches, no further round is planned."""
         if is_by_rounds(competition):
             refuse_numbers(competition, self.roles)
             self.add_again(competition, until)
@@ -164,8 +164,8 @@ class Growing:
         return found
 
     def next_round(self, competition: Competition, most: int | None) -> Round | None:
-        """Returns the next round if the last one is over, or None. After `most` matches it returns only a round without matches, for example if all
-        but one player have withdrawn."""
+        """If the last round is over, returns the next one, otherwise None. After `most` matches, returns only a round without matches, for
+        example if all players except one have withdrawn."""
         number, withdrawn, is_full = len(self.rounds.found), competition.withdrawn(), most is not None and len(self.matches) >= most
         if number == rounds_of(competition) or is_full and not withdrawn and not competition.absent_rounds:
             return None
@@ -195,7 +195,7 @@ class Growing:
         return id_of(competition, len(self.matches) + 1, self.width, self.key)
 
     def leave_out(self, competition: Competition) -> None:
-        """Marks the matches of withdrawn players that do not count or are not played."""
+        """Marks the matches that do not count or are not played because a player has withdrawn."""
         withdrawn = withdrawn_by(competition, self.rounds.found)
         for at, match in enumerate(self.matches) if withdrawn else ():
             name = next((player for player in match.players if player in withdrawn), None)
@@ -203,7 +203,7 @@ class Growing:
                 self.matches[at] = replace(match, withdrawn=withdrawn_words(name, withdrawn[name]))
 
     def add_again(self, competition: Competition, until: int | None) -> None:
-        """Adds the rematches that were ordered at this point."""
+        """Adds the rematches that come next in the schedule."""
         while (until is None or len(self.matches) < until) and (order := self.again.pop(self.next_id(competition), None)):
             refuse_too_many(competition, len(self.matches) + 1)
             at = self.places.get(order.instead_of)
@@ -218,7 +218,8 @@ class Growing:
 
 
 def grown(history: History, competition: Competition, roles: Mapping[str, int], result_of: ResultOf, most: int | None = None) -> Growing:
-    """Returns the schedule that follows from a competition, its history and its results. No round begins after `most` matches."""
+    """Returns the schedule that follows from a competition, its history and its results. After `most` matches, no further round is
+    planned."""
     growing, before = Growing(history, roles, result_of), None
     for until, version in (*history.earlier, (None, competition)):
         if before is not None:
@@ -230,5 +231,5 @@ def grown(history: History, competition: Competition, roles: Mapping[str, int], 
         before = version
     growing.leave_out(competition)
     if growing.again:
-        raise Misfit(f"{min(growing.again)}, which was ordered again, is not the next match")
+        raise Misfit(f"the rematch {min(growing.again)} is not the next match of the schedule")
     return growing

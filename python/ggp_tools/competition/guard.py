@@ -1,7 +1,7 @@
 """Ends the programs that `play` runs when `play` has ended, even if it was killed. It needs only Python's standard library.
 
-Each program that `play` runs has a mark in its environment, and passes it on to what it starts. The input of this program ends with `play`, and after the
-programs that `play` was starting at that moment have begun."""
+Each program that `play` runs has a mark in its environment, and passes it on to what it starts. The input of this program ends when `play`
+has ended, and when the programs that `play` was starting at that moment have begun."""
 
 import contextlib
 import os
@@ -19,7 +19,7 @@ def marked(value: str) -> list[int]:
     """Returns the processes whose mark has this value."""
     mark, found = os.fsencode(f"{MARK}={value}"), []
     for file in pathlib.Path("/proc").glob("[0-9]*/environ"):
-        # The environments of other users' processes can't be read.
+        # The environments of the processes of other users can't be read.
         with contextlib.suppress(OSError):
             if mark in file.read_bytes().split(b"\0"):
                 found.append(int(file.parent.name))

@@ -1,5 +1,5 @@
-"""The history of a competition, in its directory. `earlier` has the earlier versions of competition.toml, each named by the number of matches that
-were planned when the next version replaced it. `again.tsv` has the rematches, with the reasons."""
+"""Reads the history of a competition in its directory. `earlier` has the earlier versions of competition.toml. The name of each is the
+number of matches that were planned when the next version replaced it. `again.tsv` has the rematches, with the reasons."""
 
 import csv
 import io
@@ -16,8 +16,8 @@ HEAD = b"match\tinstead of\treason\n"
 LINE = re.compile(rb"([A-Za-z0-9_.-]{1,60})\t([A-Za-z0-9_.-]{1,60})\t([\x20-\x7e]{1,200})\n")
 KEY = re.compile(rb"[0-9a-f]{32}\n")
 EARLIER = re.compile(r"([1-9][0-9]{0,5})\.toml")
-# The maximum number of earlier versions, and the maximum number of bytes that they may have in total. Reading a version takes seconds, and `plan`
-# writes one whenever the schedule grows. This many suffice to add the maximum number of players one by one.
+# The maximum number of earlier versions, and the maximum number of bytes that they may have in total. Reading a version may take seconds,
+# and `plan` writes one each time that the schedule grows. This number suffices to add the maximum number of players one by one.
 MOST_EARLIER, MOST_OF_EARLIER = MOST_PLAYERS, 64 << 20
 
 
@@ -38,7 +38,8 @@ def read_again(folder: Folder) -> tuple[Again, ...]:
 
 
 def competition_of_file(path: Path, text: bytes, seeds: Path | None = None) -> Competition:
-    """Returns the competition of a competition.toml. If it has `seeds` and a table is given, the players are in the order of that table."""
+    """Returns the competition that a competition.toml describes. If the file has `seeds`, and the other competition's table is given, the
+    players are in the order of this table."""
     try:
         found = read_competition(text)
     except Mistaken as why:
@@ -62,8 +63,8 @@ def seeded(competition: Competition, path: Path) -> Competition:
 
 
 def earlier_files(folder: Folder, *new: int) -> list[Path]:
-    """Returns the earlier versions of competition.toml, the oldest first. Refuses too many files, or too many bytes in total. `new` has the sizes of
-    the versions to be added."""
+    """Returns the earlier versions of competition.toml, the oldest first. Refuses too many files, or too many bytes in total. `new` has the
+    sizes of the versions that will be added."""
     found = [file for file in folder.earlier.iterdir() if not file.name.startswith(UNFINISHED)] if folder.earlier.is_dir() else []
     for file in found:
         if not EARLIER.fullmatch(file.name):
@@ -81,7 +82,7 @@ def read_history(folder: Folder, competition: Competition) -> History:
 
 
 def read_key(folder: Folder, competition: Competition) -> bytes:
-    """Returns the key from which the ids of the matches are computed. The key is empty if the ids are counted."""
+    """Returns the key from which the ids of the matches are computed. If the ids are consecutive numbers, the key is empty."""
     if competition.ids != RANDOM_IDS:
         return b""
     if not folder.key.exists():

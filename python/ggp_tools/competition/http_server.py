@@ -23,14 +23,16 @@ from ggp_tools.human.server import is_own_name
 from ggp_tools.visitors import THIS_COMPUTER, Visitors, client_of, oldest_of_most
 
 Value = TypeVar("Value")
-# The directory is read every INTERVAL seconds. If a page has no changes, its visitor is sent a row every ALIVE seconds, to detect when the visitor
-# has left.
+# The directory is read every INTERVAL seconds. If a page does not change, its visitor is sent a row every ALIVE seconds, which shows
+# whether the visitor has left.
 INTERVAL, ALIVE = 1.0, 10.0
-# The head of a request must arrive within HEAD seconds and have at most LONGEST_HEAD bytes. The visitor must accept each piece of data within PATIENCE
-# seconds, and the piece at byte N of an answer within PATIENCE + N / SLOWEST seconds after the beginning of the answer.
+# The head of a request must arrive within HEAD seconds, and have at most LONGEST_HEAD bytes. The visitor must accept each piece of data
+# within PATIENCE seconds. It must accept the piece at byte N of an answer within PATIENCE + N / SLOWEST seconds after the beginning of the
+# answer.
 HEAD, LONGEST_HEAD, PATIENCE, SLOWEST = 5, 16_384, 20, 1 << 15
-# The number of connections that may wait to be accepted, and the number that are accepted at a time. This is small, so that the server first reads
-# the heads of earlier ones: the head of a request from a proxy shows the client, and until then the connection may be closed for another.
+# The number of connections that may wait to be accepted, and the number that are accepted at a time. The second one is small, so that the
+# server reads the heads of accepted connections before it accepts more: only the head of a request from a proxy shows the client, and
+# without a head, the connection may be closed to make room for another.
 BACKLOG, AT_A_TIME = 128, 4
 BUSY = b"HTTP/1.1 503 Service Unavailable\r\nRetry-After: 10\r\nContent-Length: 0\r\nConnection: close\r\n\r\n"
 HEADERS = {
@@ -39,13 +41,14 @@ HEADERS = {
     "Referrer-Policy": "no-referrer",
     "Server": "ggp_competition",
 }
-# An answer is sent in pieces, because the event loop copies what the visitor has not accepted yet. All answers together have at most MOST_SENT bytes.
+# An answer is sent in pieces, because the event loop copies everything that the visitor has not accepted yet. All answers together have at
+# most MOST_SENT bytes.
 PIECE, MOST_SENT = 1 << 16, 256 << 20
 # The content types of pages, and of data for programs.
 PAGE, JSON, NUMBERS = "text/html", "application/json", "text/plain; version=0.0.4"
 NOBODY = ("'none'",)
 VERSION, METHODS = re.compile("[0-9]{1,20}"), ("GET", "HEAD")
-# If a request cannot be read, only its sender needs to know, so the error is not logged.
+# If a request cannot be read, only its sender needs to know this, so the error is not logged.
 SILENT = logging.Logger("requests")
 SILENT.addHandler(logging.NullHandler())
 
@@ -55,12 +58,13 @@ def kind_of(path: str) -> str:
 
 
 class Connection(web.RequestHandler):
-    """A connection with one request. `is_idle` is set until the head has arrived. The task that answers the request ends with the connection."""
+    """A connection with one request. `is_idle` is true until the head has arrived. When the connection ends, so does the task that answers
+    the request."""
 
     __slots__ = ("visitors", "client", "is_idle", "left", "clock", "asking", "answer")
 
     def __init__(self, visitors: Visitors, server: web.Server) -> None:
-        # Bodies are not read, and decompressing one could fill the memory.
+        # Bodies are not read. Decompressing a body could fill the memory.
         loop = asyncio.get_running_loop()
         super().__init__(server, loop=loop, access_log=None, logger=SILENT, lingering_time=0, auto_decompress=False)
         self.visitors, self.client, self.is_idle, self.left = visitors, "", True, LONGEST_HEAD
@@ -83,7 +87,7 @@ class Connection(web.RequestHandler):
         super().connection_made(transport)
 
     def data_received(self, data: bytes) -> None:
-        """Takes a part of the request. Bytes after the request or beyond the limit are ignored."""
+        """Receives a part of the request. Bytes after the request or beyond the limit are ignored."""
         self.left -= len(data)
         try:
             if self.left >= 0:
@@ -108,13 +112,14 @@ class Connection(web.RequestHandler):
         super().connection_lost(why)
 
     def has_asked(self) -> None:
-        """Records that the head has arrived. The calling task answers as long as the connection is open."""
+        """Records that the head has arrived, and that the calling task answers the request. This task is cancelled when the connection
+        ends."""
         self.is_idle, self.asking = False, asyncio.current_task()
         self.clock.cancel()
 
     def is_served(self, forwarded: Sequence[str]) -> bool:
-        """Returns whether the client may have this connection. If it comes from a proxy on this computer, the client is the last address in these
-        headers."""
+        """Returns whether the client may have this connection. If the connection comes from a proxy on this computer, the client is the
+        last address in `forwarded`."""
         if self.client == THIS_COMPUTER and forwarded:
             self.visitors.go(self)
             with contextlib.suppress(ValueError):
@@ -131,9 +136,9 @@ class Connection(web.RequestHandler):
 
 
 class Server:
-    """The server of a competition's live pages, below a path. One thread reads the directory and makes the pages, except those of matches that are
-    over, which another thread makes. The event loop does everything else. Browsers may use `names` for the server. Pages of `origins` may show its
-    pages and read its data."""
+    """The server of a competition's live pages, below a path. One thread reads the directory and makes the pages, except those of matches
+    that are over, which another thread makes. The event loop does everything else. Browsers may address the server by `names`. Pages of
+    `origins` may show its pages and read its data."""
 
     def __init__(self, site: LiveSite, most: int, base: str = "", names: Sequence[str] = (), origins: Sequence[str] = ()) -> None:
         self.site, self.visitors, self.address, self.reported = site, Visitors(most, spares_busy=False), "", ""
@@ -141,8 +146,8 @@ class Server:
         self.headers = {**HEADERS, "Content-Security-Policy": f"frame-ancestors {' '.join(origins or NOBODY)}"}
         self.thread, self.other_thread = concurrent.futures.ThreadPoolExecutor(1), concurrent.futures.ThreadPoolExecutor(1)
         sys.setrecursionlimit(MOST_CALLS)
-        # One lock for each client that is waiting for a thread, and one lock for the pages that are computed from results. These pages take longer than
-        # the others.
+        # There is one lock for each client that is waiting for a thread, and one lock for the pages that are computed from results, which
+        # take longer than the others.
         self.turns: weakref.WeakValueDictionary[str, asyncio.Lock] = weakref.WeakValueDictionary()
         self.long_turn = asyncio.Lock()
         self.updated = asyncio.Event()
@@ -152,7 +157,7 @@ class Server:
         answering, family = web.Server(self.answer), socket.AF_INET6 if ":" in address else socket.AF_INET
         listening = socket.create_server((address, port), family=family, backlog=BACKLOG, dualstack_ipv6=address == "::")
         self.listener = await asyncio.get_running_loop().create_server(lambda: Connection(self.visitors, answering), sock=listening, backlog=AT_A_TIME)
-        # asyncio's `create_server` limits the queue to the number of connections that the event loop accepts at a time.
+        # `create_server` of asyncio would limit the queue to the number of connections that the event loop accepts at a time.
         listening.listen(BACKLOG)
         self.address, port, *_ = listening.getsockname()
         return self.address, port
@@ -169,8 +174,8 @@ class Server:
         return await asyncio.get_running_loop().run_in_executor(self.thread, function, *values)
 
     async def for_client(self, client: str, function: Callable[[str], Value], path: str) -> Value:
-        """Calls a function for a client in the site's thread. If it returns another function, calls that function in the other thread. Only one call
-        of each client waits for the threads, and only one call for a page that is computed from results."""
+        """Calls a function for a client in the site's thread. If it returns another function, calls that function in the other thread. At
+        any time, only one call of each client, and only one call for a page that is computed from results, waits for the threads."""
         is_long = path != FIRST and path[1:] in self.site.made
         async with self.turns.setdefault(client, asyncio.Lock()), self.long_turn if is_long else contextlib.nullcontext():
             result = await self.on_site(function, path)
@@ -198,11 +203,12 @@ class Server:
     # ---- requests
 
     def is_open_to(self, host: str) -> bool:
-        """Returns whether a browser may use this name: at a loopback address only known names count, because another site's name may lead there."""
+        """Returns whether a browser may use this name for the server. If the server listens at a loopback address, only known names are
+        allowed, because the name of another site may lead to this address."""
         return not host or client_of(self.address) != THIS_COMPUTER or any(is_own_name(host, name) for name in self.names)
 
     async def answer(self, request: web.BaseRequest) -> web.StreamResponse:
-        """Answers a request, and ends the connection if the visitor does not take the answer in time."""
+        """Answers a request. If the visitor does not accept the answer in time, ends the connection."""
         request.protocol.has_asked()
         whole, _, query = request.raw_path.partition("?")
         asked = whole.removeprefix(self.base) if whole.startswith(f"{self.base}/") else ""
@@ -240,13 +246,13 @@ class Server:
             oldest_of_most(answered, lambda other: len(other.answer)).end()
 
     def headers_of(self, request: web.BaseRequest, kind: str) -> dict[str, str]:
-        """Returns the headers of an answer. Besides the server's own pages, only pages of `origins` may read it."""
+        """Returns the headers of an answer. Only the server's own pages and those of `origins` may read the answer."""
         origin = request.headers.get("Origin")
         known = {"Access-Control-Allow-Origin": origin} if origin in self.origins else {}
         return {**self.headers, **known, "Vary": "Origin", "Content-Type": f"{kind}; charset=utf-8"}
 
     async def send(self, request: web.BaseRequest, status: HTTPStatus, data: bytes | None = None) -> web.StreamResponse:
-        """Sends the data or, if there are none, the text of the status."""
+        """Sends the data. Without data, sends the text of the status."""
         path = request.raw_path.removeprefix(self.base)
         kind = kind_of(path)
         if data is None:
@@ -268,7 +274,7 @@ class Server:
         return response
 
     async def send_events(self, request: web.BaseRequest, path: str, known: str) -> web.StreamResponse:
-        """Sends the changes since a version, or from now on, as long as the visitor accepts them."""
+        """Sends the changes since a version, or from now on if there is no version, as long as the visitor accepts them."""
         with self.visitors.viewing(request.protocol) as has_room:
             page = await self.for_client(request.protocol.client, self.site.opened, path) if has_room else None
             if page is None:
@@ -277,7 +283,7 @@ class Server:
             response.force_close()
             writer = await response.prepare(request)
             if request.method == "HEAD":
-                # An answer to HEAD has no body, so it must have no last chunk either.
+                # An answer to HEAD has no body, so it must not have a last chunk either.
                 writer.chunked = False
                 return response
             page.viewers += 1
@@ -289,8 +295,8 @@ class Server:
             return response
 
     async def send_changes(self, response: web.StreamResponse, page: OpenPage, version: int, stays: Callable[[], bool]) -> None:
-        """Sends the changes to a page since a version, until the page is final or another stream replaces this one. Sending fails once the visitor is
-        gone."""
+        """Sends the changes to a page since a version, until the page is final or another stream replaces this one. If the visitor has
+        left, sending fails."""
         is_last = False
         while not is_last and stays():
             with contextlib.suppress(TimeoutError):

@@ -11,7 +11,7 @@ from ggp_tools.competition.files import Folder, Refused, write_whole
 # This directory exists in the repository and in an archive of the program.
 PARENTS = pathlib.Path(__file__).resolve().parents
 EXAMPLES = next((place for parent in PARENTS if (place := parent / "examples/games").is_dir()), pathlib.Path("examples/games"))
-# The options for the forms: the argument, and the help.
+# The options for the forms. Each has the name of its argument, and its help.
 FORMS = {
     "round-robin": ("ROUNDS", "each pair of players meets ROUNDS times, each time in both orders of the roles"),
     "swiss": ("ROUNDS", "a Swiss competition of this many rounds"),
@@ -33,7 +33,7 @@ replaced = 3      # a player with this many replaced moves in a match has lost i
 kind = "{kind}"
 {form}"""
 BY_ROUNDS = """pause = false     # true: `play` ends after each round
-absent_rounds = 0 # a player is withdrawn after this many rounds without a move; 0: never
+absent_rounds = 0 # a player is withdrawn after this many rounds in which all its moves were replaced; 0: never
 """
 GAME = """
 [[games]]
@@ -57,15 +57,15 @@ NO_PLAYER = """
 def add_init(command: argparse.ArgumentParser) -> None:
     command.add_argument("folder", metavar="DIRECTORY", help="the directory of the competition, which is created if it does not exist")
     command.add_argument("--name", metavar="NAME", help="the name of the competition (default: that of the directory)")
-    command.add_argument("--games", metavar="A,B,..", help="names of games in examples/games, or paths of descriptions")
+    command.add_argument("--games", metavar="A,B,..", help="the games: names of games in examples/games, or paths of descriptions")
     forms = command.add_mutually_exclusive_group()
     for form, (word, text) in FORMS.items():
         value = {"metavar": word, "type": lambda more, form=form: (form, more)} if word else {"action": "store_const", "const": (form, "")}
         forms.add_argument(f"--{form}", dest="form", help=text, **value)
     command.add_argument("--final", metavar="N", help="after a Swiss competition the best N players play a knockout")
     command.add_argument("--players", metavar="NAME=HOST:PORT,..", help="the players (default: none; add them to the file later)")
-    command.add_argument("--start", metavar="S", default="10", help="seconds for START (10)")
-    command.add_argument("--play", metavar="S", default="5", help="seconds for each other message (5)")
+    command.add_argument("--start", metavar="S", default="10", help="seconds for START (default: 10)")
+    command.add_argument("--play", metavar="S", default="5", help="seconds for each other message (default: 5)")
 
 
 def ask_for_the_rest(asked: argparse.Namespace) -> None:
@@ -78,7 +78,7 @@ def ask_for_the_rest(asked: argparse.Namespace) -> None:
 
 
 def game_entry(word: str, folder: pathlib.Path) -> str:
-    """Returns the entry of a game, with the path of its file from the competition's directory."""
+    """Returns the entry of a game. The path of its file is relative to the competition's directory."""
     places = [pathlib.Path(word), EXAMPLES / f"{word}.kif", EXAMPLES / f"general/{word}.kif"]
     path = next((place for place in places if place.is_file()), None)
     if path is None:
@@ -102,7 +102,7 @@ def words(text: str | None) -> list[str]:
 
 
 def write_first_file(asked: argparse.Namespace) -> pathlib.Path:
-    """Writes the file, and returns its path. Refuses everything that `plan` would refuse in it, except missing players."""
+    """Writes the file, and returns its path. Refuses everything in it that `plan` would refuse, except that there may be no players."""
     folder = Folder(asked.folder)
     if folder.competition.exists():
         raise Refused(f"{folder.competition} already exists")

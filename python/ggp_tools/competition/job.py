@@ -1,8 +1,9 @@
 """Runs a referee or a player on the computer where a launcher has started this program. It needs only Python's standard library.
 
-It first writes the name of its node to standard error, and then a line every two seconds. It reads its task, a line of JSON, from standard input,
-runs the task, passes on its output, and finally reports its exit status. If standard input is closed, or is silent for the number of seconds in the
-argument, the program ends the task. A player gets a free port and its limits, and is ended together with all processes that it has started."""
+It first writes the name of its node to standard error, and then a line every two seconds. It reads its task, a line of JSON, from standard
+input. It runs the task, passes on the task's output, and finally reports its exit status. The argument is a number of seconds. If standard
+input is closed, or silent for this time, the program ends the task. A player gets a free port and its limits, and is ended together with
+all processes that it has started."""
 
 import contextlib
 import ctypes
@@ -30,7 +31,7 @@ LIBRARY = ctypes.CDLL(None)
 
 
 def free_port(before: int) -> int:
-    """Returns a free port: the earlier one if possible."""
+    """Returns a free port, if possible the one that was used before."""
     for port in (before, 0):
         with contextlib.suppress(OSError), socket.socket() as probe:
             probe.setsockopt(socket.SOL_SOCKET, socket.SO_REUSEADDR, 1)
@@ -40,7 +41,8 @@ def free_port(before: int) -> int:
 
 
 def bounded(memory: int) -> list[str]:
-    """Returns a command that limits the memory of all processes of a player together, or an empty one if systemd does not support that."""
+    """Returns the beginning of a command line that limits the memory of all processes of a player together. If systemd does not support
+    this, the list is empty."""
     user = ["--user"] if os.geteuid() else []
     words = ["systemd-run", *user, "--scope", "--quiet", f"--property=MemoryMax={memory}", "--property=MemorySwapMax=0", "--"]
     with contextlib.suppress(OSError):
@@ -51,8 +53,8 @@ def bounded(memory: int) -> list[str]:
 
 
 def limit(memory: int, processors: int, number: int) -> None:
-    """Limits this process and those that it starts: the memory of each process, and the processors of all. Different players get different processors
-    if there are enough."""
+    """Limits this process and the processes that it starts: the memory of each one, and the processors of all together. Different players
+    get different processors if there are enough."""
     if memory:
         resource.setrlimit(resource.RLIMIT_DATA, (memory, memory))
     allowed = sorted(os.sched_getaffinity(0))
@@ -71,7 +73,7 @@ def children() -> list[int]:
 
 
 class Job:
-    """A referee or a player and its output. The job writes its own lines only between lines of the referee."""
+    """A referee or a player, and its output. The job writes its own lines only between lines of the referee."""
 
     def __init__(self, silence: float) -> None:
         self.silence, self.given = silence, b""
@@ -130,8 +132,8 @@ class Job:
             self.is_at_line, self.said = not data or data.endswith(b"\n"), time.monotonic()
 
     def status(self) -> int:
-        """Returns the status of a process that has ended, and passes on the rest of its output. One read gets everything that is left in a pipe. The
-        process is not reaped yet, so that no other process gets its number."""
+        """Passes on the rest of the output of a process that has ended, and returns its exit status. One read returns everything that is
+        left in a pipe. The process is not reaped yet, so that no other process gets its id."""
         os.set_blocking(self.pipe.fileno(), False)
         with contextlib.suppress(BlockingIOError, KeyError):
             self.pass_on()
@@ -139,7 +141,7 @@ class Job:
         return end.si_status if end.si_code == os.CLD_EXITED else -end.si_status
 
     def run(self) -> int | None:
-        """Runs the process, and returns its status, or None if `play` has ended or is silent."""
+        """Runs the process, and returns its exit status. If `play` ends or is silent for too long, returns None."""
         self.say(f"node {os.environ.get('SLURMD_NODENAME') or socket.gethostname()}")
         self.selector.register(0, selectors.EVENT_READ)
         while time.monotonic() < self.heard + self.silence:
@@ -155,7 +157,7 @@ class Job:
         return None
 
     def end(self) -> None:
-        """Ends the process. All processes that a player has started are, or become, children of this process."""
+        """Ends the process. For a player, also ends all processes that it has started, which are or become children of this process."""
         for number in (signal.SIGTERM, signal.SIGKILL) if self.is_player else (signal.SIGKILL,):
             with contextlib.suppress(ProcessLookupError):
                 (os.killpg if self.is_player else os.kill)(self.process.pid, number)

@@ -13,28 +13,28 @@ from ggp_tools.competition.job import BEAT, OURS
 from ggp_tools.match_log import LONGEST_LINE
 from ggp_tools.printable import printable
 
-SILENT, LONG = "nothing was heard from it for {:.0f} s", "it sent a line of more than {:,} bytes"
+SILENT, LONG = "it sent nothing for {:.0f} s", "it sent a line of more than {:,} bytes"
 NOT_RUN = "its launcher did not run it within {:,} s; it may need more `queue_seconds`"
 NO_PLAYER = "it sent {!r} instead of the player's process and address"
-# After a job has ended, its output is read for at most this many seconds, because a process that the job left behind may keep the pipe open.
+# After a job has ended, its output is read only for this many seconds, because a process that the job left behind may keep the pipe open.
 MOST_UNREAD = 2
-# A job has END_SECONDS to end its processes. It counts as lost if it sends nothing for LOST_SECONDS.
+# A job has END_SECONDS to end its processes. If it sends nothing for LOST_SECONDS, it counts as lost.
 END_SECONDS, LOST_SECONDS = 3, 10
-# A job ends its processes if this program sends nothing for this many seconds, so that the match can be started elsewhere. On this computer, a job
-# notices at once when this program has ended, and this program may be silent, for example while it is stopped by Ctrl-Z.
+# If this program sends nothing for this many seconds, a job ends its processes, so that the match can be started elsewhere. A job on this
+# computer notices at once when this program ends, so this program may be silent, for example while it is stopped by Ctrl-Z.
 SILENCE, HERE_SILENCE = 20, 10**9
-# The maximum length of the name of a node, and of a process with its address.
+# The maximum length of the name of a node, and that of a process with its address.
 MOST_OF_NAME = 300
 PROCESS = re.compile("[0-9]{1,10}")
 JOB = pathlib.Path(__file__).with_name("job.py").absolute()
 
 
 class Lost(Exception):
-    """Why a job was given up."""
+    """The reason why a job was given up."""
 
 
 def is_player(text: str) -> bool:
-    """Returns whether a text is the process of a player and its address."""
+    """Returns whether a text has the form of a player's process id and address."""
     process, _, address = text.partition(" ")
     return bool(PROCESS.fullmatch(process)) and is_address(address)
 
@@ -52,15 +52,15 @@ class Job:
         self.runs, self.has_player, self.process, self.is_remote = asyncio.Event(), asyncio.Event(), None, False
         # What the job reports: the node, the process and the address of a player, and the exit status. Then the reason why the job was given up.
         self.node, self.player, self.status, self.why = "", "", None, ""
-        # Whether the job has its task, and whether the task may go on after the local process of the job has ended.
+        # Whether the job has its task, and whether the task may continue after the local process of the job has ended.
         self.has_begun, self.goes_on = False, False
 
     def start(self, launcher: Sequence[str], task: dict[str, object] | None = None) -> None:
-        """Starts the job. The task `running` ends with it."""
+        """Starts the job. When it ends, the task `running` ends."""
         self.running = asyncio.create_task(self.run(launcher, task))
 
     def begin(self, task: dict[str, object]) -> None:
-        """Sends the job its command. No launcher needs to quote it."""
+        """Sends the job its command through standard input, so no launcher needs to quote it."""
         self.has_begun = True
         self.process.stdin.write(json.dumps(task).encode() + b"\n")
 
@@ -84,7 +84,7 @@ class Job:
                 await asyncio.wait([ending, reading], return_when=asyncio.FIRST_COMPLETED)
             finally:
                 beating.cancel()
-                # The job gets time to end the processes on the node, which may continue if the job is killed.
+                # The job gets time to end its processes on the node. If the job were killed, they might continue.
                 self.process.stdin.close()
                 await asyncio.wait([ending], timeout=self.end_seconds)
                 self.goes_on = self.has_begun and not has_ended.is_set()
@@ -108,7 +108,7 @@ class Job:
             await self.take_output(data)
 
     async def read_lines(self) -> None:
-        """Reads standard error. A job may be silent while it waits in a queue, but not once it runs."""
+        """Reads standard error. While a job waits in a queue, it may be silent, but not when it runs."""
         rest = b""
         try:
             async with asyncio.timeout(self.queue_seconds if self.is_remote else None) as silence:
@@ -125,7 +125,7 @@ class Job:
             await self.take([rest])
 
     async def take(self, lines: list[bytes]) -> None:
-        """Handles lines of standard error: first those of the job itself, then all others together, because there may be very many."""
+        """Handles lines of standard error: first the job's own lines, and then all others together, because there may be very many."""
         for line in lines:
             if line.startswith(OURS):
                 self.take_own(line)

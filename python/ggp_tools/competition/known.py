@@ -1,5 +1,6 @@
-"""A cache of facts about the files of a competition. The keys are checksums of everything that the facts follow from, so facts about a changed file
-are not found. The cache is in the user's cache directory, so a directory that comes from elsewhere cannot introduce false facts."""
+"""A cache of facts about the files of a competition. The keys are checksums of everything on which the facts depend, so that outdated facts
+about a changed file are not found. The cache is in the user's cache directory, so a directory that comes from elsewhere cannot introduce
+false facts."""
 
 import dataclasses
 import hashlib
@@ -44,7 +45,8 @@ def sum_or_none(path: str | pathlib.Path) -> str | None:
 
 
 class Facts(pickle.Unpickler):
-    """Reads stored facts. It accepts only dataclasses of this package and these types, so a file that somebody else wrote cannot run code."""
+    """Reads stored facts. It accepts only dataclasses of this package and the types in TYPES, so a file that somebody else wrote cannot run
+    code."""
 
     TYPES = {("collections", "Counter"), ("datetime", "datetime"), ("datetime", "timedelta"), ("datetime", "timezone"), ("markupsafe", "Markup")}
 
@@ -59,7 +61,7 @@ class Facts(pickle.Unpickler):
 
 
 def facts_in(data: bytes | None) -> dict[str, typing.Any]:
-    """Returns stored facts, or none if these bytes are anything else."""
+    """Parses stored facts. If the bytes are not facts, returns an empty table."""
     try:
         facts = Facts(io.BytesIO(data)).load() if data else {}
     except (RuntimeError, pickle.UnpicklingError):
@@ -68,11 +70,11 @@ def facts_in(data: bytes | None) -> dict[str, typing.Any]:
 
 
 class Known:
-    """The known facts about a competition's directory. Each kind of fact maps checksums to values, and is stored as bytes, which are read when the first
-    fact of this kind is needed."""
+    """The known facts about a competition's directory. Facts of one kind are a table from checksums to values. It is stored as bytes, which
+    are parsed only when the first fact of this kind is needed."""
 
     def __init__(self, folder: pathlib.Path) -> None:
-        # The key includes the code, because another version may find other facts, and cannot read these.
+        # The key includes the code, because another version may compute different facts, and cannot read these.
         code = [file.read_bytes() for file in sorted(PACKAGE.rglob("*")) if file.suffix in CODE]
         self.name = sum_of_parts(os.fsencode(folder.absolute()), sys.version.encode(), *code)
         # The stored facts are ignored if their file has changed since it was written, or if another user may have written it.
@@ -82,7 +84,7 @@ class Known:
         self.lock = threading.Lock()
 
     def facts(self, kind: str) -> dict[str, typing.Any]:
-        """Returns the stored facts of a kind. Only one thread reads them."""
+        """Returns the stored facts of a kind. The lock ensures that only one thread parses them."""
         with self.lock:
             if kind not in self.read:
                 self.read[kind] = facts_in(self.before.get(kind))
@@ -99,8 +101,8 @@ class Known:
         self.used.setdefault(kind, {})[key] = value
 
     def write(self) -> None:
-        """Stores the facts. If facts of a kind were used, the other facts of this kind are dropped. Facts that cannot be stored are computed again
-        the next time."""
+        """Stores the facts. If some facts of a kind were used, all others of this kind are dropped. If the facts cannot be stored, they are
+        computed again the next time."""
         new = {kind: pickle.dumps(values) for kind, values in self.used.items() if values != self.facts(kind)}
         if new and len(data := pickle.dumps(self.before | new)) <= MOST_BYTES:
             store(KIND, self.name, data, MOST_KEPT)

@@ -14,7 +14,7 @@ import pathlib
 import re
 import time
 from collections import Counter, deque
-from collections.abc import Callable, Container, Iterable, Iterator
+from collections.abc import Callable, Collection, Container, Iterable, Iterator
 from dataclasses import dataclass, field
 from typing import NamedTuple
 
@@ -48,6 +48,8 @@ RESTARTED = re.compile(rf"{MOMENT} restart (\S+) (\S+): .*\n")
 GIVEN_UP = re.compile(rf"{MOMENT} (?:no record|missing) (\S+): (?!{NOT_BEGUN}\n)(.*)\n")
 STOPPED = re.compile(rf"{MOMENT} stopped (\S+), because (\S+) does not follow its description; .*\n")
 BEGUN = re.compile(rf"{MOMENT} play [0-9,]+ match(es)?\n")
+# With a delay, about this many snapshots of the directory are kept.
+MOST_SNAPSHOTS = 600
 # Asking the referee takes at most a quarter of the time.
 REFEREE_SHARE = 3
 # Errors of this process, which say nothing about a file.
@@ -103,7 +105,8 @@ class Delay:
     def snapshot(self, matches: dict[str, OpenFiles], journal: Extent, is_running: bool) -> Snapshot:
         """Stores the present state of the directory. Returns its state at the moment that is shown, which is empty before the first update."""
         now = clock()
-        self.snapshots.append(Snapshot(now, matches, journal, is_running))
+        if not self.snapshots or now - self.snapshots[-1].moment >= self.seconds / MOST_SNAPSHOTS:
+            self.snapshots.append(Snapshot(now, matches, journal, is_running))
         while len(self.snapshots) > 1 and self.snapshots[1].moment <= now - self.seconds:
             self.snapshots.popleft()
         first = self.snapshots[0]
@@ -324,6 +327,8 @@ class Reader:
         # These matches, and those that are open, are in the schedule's order.
         self.known = {match.id: match for match in plan.matches}
         self.open: dict[str, LiveMatch] = {}
+        # The open matches that the plan does not have.
+        self.unknown: set[str] = set()
         self.results: dict[str, Result] = {}
         # What the pages show of the matches with results. An entry stays when its result is removed, because a page may still list the match.
         self.over: dict[str, Ended] = {}
@@ -357,6 +362,7 @@ class Reader:
         # logs had these sizes.
         journal = extent_at(self.plan.folder.journal, self.delay.seconds > 0)
         shown = self.delay.snapshot(self.read_open_files(), journal, is_locked(self.plan.folder.path))
+        self.unknown = shown.matches.keys() - self.known.keys()
         gone = self.update_open({name: files for name, files in shown.matches.items() if name in self.known})
         while rows := self.journal.added(shown.journal)[0]:
             for row in rows:
@@ -390,14 +396,19 @@ class Reader:
         """Returns the matches whose files are read: those that the pages show, and those that they will show after the delay."""
         return {**self.known, **self.delay.coming} if self.delay.coming else self.known
 
+    def players_of(self, name: str) -> Collection[str]:
+        """Returns the players of a match, or all players if no plan has the match, because the new plan can't be read."""
+        match = self.known.get(name) or self.delay.coming.get(name)
+        return match.players if match else [player.name for player in self.plan.competition.players]
+
     def read_open_files(self) -> dict[str, OpenFiles]:
-        """Returns the open matches. If their directory can't be read now, returns those of the last update."""
+        """Returns the open matches, including unknown ones. If their directory can't be read now, returns those of the last update."""
         names, known = self.listed(self.plan.folder.open), self.remembered()
         if names is not None:
-            matches = {name: files for name in known if name in names and (files := self.open_files_of(name))}
+            matches = {name: files for name in (*known, *(names - known.keys())) if name in names and (files := self.open_files_of(name))}
             # A match that still sends INFO is not shown: it would reveal that a player is silent, perhaps even in an open turn of another match.
-            playing = {player for name, files in matches.items() if files.stage != ASKING for player in known[name].players}
-            matches = {name: files for name, files in matches.items() if files.stage != ASKING or playing.isdisjoint(known[name].players)}
+            playing = {player for name, files in matches.items() if files.stage != ASKING for player in self.players_of(name)}
+            matches = {name: files for name, files in matches.items() if files.stage != ASKING or playing.isdisjoint(self.players_of(name))}
             # Snapshots share unchanged parts.
             matches = {name: self.open_files[name] if self.open_files.get(name) == files else files for name, files in matches.items()}
             self.open_files = matches if matches != self.open_files else self.open_files
@@ -476,7 +487,8 @@ class Reader:
 
     def show_later(self, players: Iterable[str], show: Callable[[], None]) -> None:
         """Stores what the journal says about players. `show_news` shows it when the matches that are open now permit that."""
-        self.news.append(News(show, {name: None for name, other in self.open.items() if not set(players).isdisjoint(other.match.players)}))
+        names = (name for name in (*self.open, *self.unknown) if not set(players).isdisjoint(self.players_of(name)))
+        self.news.append(News(show, dict.fromkeys(names)))
 
     def show_news(self) -> None:
         """Shows what the journal says about players once the rounds that were open at that time are finished, because a dead or silent player did not
@@ -494,6 +506,8 @@ class Reader:
         match = self.open.get(name)
         if match:
             return at is None or match.turn() <= at
+        if name not in self.known:
+            return name in self.unknown
         return not any(name in ended for ended in (self.results, self.faults, self.left))
 
     def round_of(self, name: str, at: int | None) -> int | None:
@@ -603,8 +617,9 @@ class Reader:
         # If it was replaced meanwhile, the next update reads it again.
         self.results[match.id], self.identities[match.id] = result, files
         self.results_version += 1
-        if match.id in self.ending:
-            self.ending.remove(match.id)
+        # The directory of the open match may still be there for a moment.
+        if self.open.pop(match.id, None) or match.id in self.ending:
+            self.ending.discard(match.id)
             self.ended[match.id] = clock(), last_states(record["states"])
 
     def run_of(self, name: str) -> tuple[list[Event], bool]:

@@ -1,4 +1,4 @@
-"""The files of the matches. A match counts if it has a lawful record and a call log that replays to this record."""
+"""Checks the files of the matches. A match counts if it has a lawful record and a call log that reproduces this record."""
 
 import contextlib
 import itertools
@@ -25,10 +25,10 @@ if TYPE_CHECKING:
     from ggp_tools.competition.plan import Plan
     from ggp_tools.descriptions.loading import Rules
 
-# At most this many matches are checked together. Their files are in memory at the same time, so they have at most this many bytes in total, unless a
-# single match has more.
+# At most this many matches are checked together. Their files are in memory at the same time. So together they have at most this many bytes,
+# unless a single match has more.
 TOGETHER, BYTES_TOGETHER = 250, 1 << 25
-# Only one batch with more bytes is checked at a time.
+# Only one batch at a time may have more bytes than this.
 LARGE = threading.Lock()
 
 
@@ -65,18 +65,19 @@ def batches(matches: Iterable[Match], size_of_match: Callable[[Match], int]) -> 
 
 
 def most_of_record(rules: bytes, size: int) -> int:
-    """Returns how many bytes a record of a game with these rules may have. This is computed only for a record of more than the usual size."""
+    """Returns how many bytes a record of a game with these rules may have. The limit is computed only if the record exceeds the usual
+    limit."""
     return USUAL_RECORD if size <= USUAL_RECORD else longest_record(rules)
 
 
 def record_bytes(folder: Folder, match: str, rules: bytes) -> bytes:
-    """Returns the record of a match. If the file is too long for its game, this returns just enough of it to show that."""
+    """Returns the record of a match. If the file is too long for its game, returns just enough bytes to show this."""
     file = folder.record(match)
     return file_bytes(file, most_of_record(rules, size_of(file)) + 2)
 
 
 def account_bytes(folder: Folder, match: str) -> bytes | None:
-    """Returns the call log of a match, or None if it is missing. If it is too long, this returns one byte more than the limit."""
+    """Returns the call log of a match, or None if it is missing. If it is too long, returns one byte more than the limit."""
     try:
         return file_bytes(folder.account(match), LONGEST_ACCOUNT + 1)
     except FileNotFoundError:
@@ -84,8 +85,8 @@ def account_bytes(folder: Folder, match: str) -> bytes | None:
 
 
 def fault_of_files(record: bytes, account: bytes | None, rules: bytes) -> str | None:
-    """Returns the reason why files cannot be passed to the referee, or None. It finds everything that would make the referee stop or that the referee
-    would skip."""
+    """Returns the reason why files cannot be passed to the referee, or None. Finds everything at which the referee would stop, and
+    everything that it would skip."""
     if account is None:
         return "its call log is missing"
     if len(account) > LONGEST_ACCOUNT:
@@ -102,7 +103,7 @@ def fault_of_files(record: bytes, account: bytes | None, rules: bytes) -> str | 
 
 
 def has_shape(record: object, roles: int) -> bool:
-    """Returns whether a JSON value has the parts of a record that determine a result."""
+    """Returns whether a JSON value has all parts of a record that determine a result."""
     if not isinstance(record, dict):
         return False
     goals, errors = record.get("goalValues"), record.get("errors")
@@ -114,7 +115,7 @@ def has_shape(record: object, roles: int) -> bool:
 
 
 def unverified_result(folder: Folder, competition: Competition, rules: Mapping[str, "Rules"], match: Match) -> Result | None:
-    """Returns the result of a match from its record, which is not checked yet, or None if there is no record."""
+    """Returns the result of a match from its record, which has not been checked yet. If there is no record, returns None."""
     try:
         data = record_bytes(folder, match.id, rules[match.game].text)
         record = json.loads(without_states(data))
@@ -136,7 +137,7 @@ def referee_faults(plan: "Plan", referee: Referee, game: str, records: Sequence[
 
 
 def check_of(plan: "Plan", match: Match, data: bytes, fault: str | None) -> Check:
-    """Returns the check of a match. If there is no fault, the referee has accepted the record."""
+    """Returns the check of a match. `fault` is None if the referee has accepted the record."""
     if fault:
         return Check(match, fault)
     record = read_record(data)
@@ -146,8 +147,8 @@ def check_of(plan: "Plan", match: Match, data: bytes, fault: str | None) -> Chec
 
 
 def sum_of_rule(plan: "Plan", referee: Referee, game: str) -> bytes | None:
-    """Returns a checksum of everything that the check of a match of a game depends on, except the files of the match: the program, the rules and two
-    numbers of competition.toml. Returns None if a file cannot be read."""
+    """Returns a checksum of everything that the check of a match of a game depends on, except the files of the match. These things are the
+    program, the rules and two numbers of competition.toml. If a file cannot be read, returns None."""
     competition = plan.competition
     try:
         sums = sum_of_file(referee.path), sum_of_file(plan.folder.rules_of(game))
@@ -262,9 +263,9 @@ def set_aside(plan: "Plan", match: str) -> bool:
 
 
 def keep(folder: Folder, match: str, record: bytes, account: bytes, log: bytes, word: str | None = None) -> pathlib.Path:
-    """Writes the files of a match, the record last: a match that has a record has the other files too. If `word` is given, the names of the files get
-    an unused ending with it, and the match does not count. Returns the file of the record. If a file cannot be written, deletes the files written
-    before it."""
+    """Writes the files of a match. The record is written last, so a match that has a record also has the other files. If `word` is given,
+    the names of the files get an unused ending that contains it, and the match does not count. Returns the file of the record. If a file
+    cannot be written, deletes the files that were written before it."""
     files = files_of(folder, match)
     ending = free_ending(files, word) if word else ""
     named = [file.with_name(file.name + ending) for file in files]
@@ -272,7 +273,7 @@ def keep(folder: Folder, match: str, record: bytes, account: bytes, log: bytes, 
         for file, data in zip(named, (log, account, record)):
             write_whole(file, data)
     except OSError:
-        # The match counts as soon as the record has its name.
+        # As soon as the record has its final name, the match counts.
         with contextlib.suppress(OSError):
             for file in named if not named[-1].exists() else ():
                 file.unlink(missing_ok=True)

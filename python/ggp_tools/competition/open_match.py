@@ -1,4 +1,4 @@
-"""One match, from INFO to its files."""
+"""Plays one match, from INFO to the files of the match."""
 
 import asyncio
 import contextlib
@@ -19,13 +19,14 @@ from ggp_tools.records.lengths import LONGEST_ACCOUNT, MOST_TURNS, longest_recor
 if TYPE_CHECKING:
     from ggp_tools.competition.playing import Playing
 
-# The referee ends INFO by itself after WHOLE seconds. Within SOON more seconds, it has reported whether it ran out of a resource.
+# The referee ends INFO by itself after WHOLE seconds. If it ran out of a resource, it reports this within SOON more seconds.
 WHOLE, SOON = 10, 1
 FREE = ("available", "ready", "unknown")
-# The maximum number of bytes that a launcher may send before a match, and that the log has for each message besides its texts.
+# The maximum number of bytes that a launcher may send before a match, and the maximum number of bytes that the log has for a message
+# besides its texts.
 MOST_BEFORE, MOST_OF_MESSAGE = 1 << 20, 1 << 10
 TOO_MUCH = "it sent more than {:,} bytes, which is more than any match needs"
-# The players of a match that was lost with its node must answer ABORT within this many seconds.
+# If a match is lost with its node, its players must answer ABORT within this many seconds.
 ABORT_SECONDS = 5
 EVENT = b'{"event":'
 
@@ -39,13 +40,15 @@ def leave_players(directory: pathlib.Path) -> None:
 
 
 def reason_of(done: Done, player: str) -> str:
-    """Returns in parentheses why a player did not answer INFO, for example because its HTTP status is not 200, if the referee has reported a reason."""
+    """If the referee has reported why a player did not answer INFO, for example because the HTTP status is not 200, returns this reason in
+    parentheses."""
     start = f"ggp_manager: {player}: "
     return next((f" ({line.removeprefix(start)})" for line in message_lines(done.errors) if line.startswith(start)), "")
 
 
 class OpenMatch:
-    """An open match. At the end it has a result, or the reason why there is none. Without either it waits to be played later."""
+    """An open match. At its end, it has either a result, or the reason why there is none. If it has neither, it waits to be played
+    later."""
 
     def __init__(self, playing: "Playing", match: Match) -> None:
         self.playing, self.match = playing, match
@@ -54,14 +57,15 @@ class OpenMatch:
         self.directory, self.log = self.plan.folder.open / match.id, self.plan.folder.room_log(match.id)
         self.places: list[str] = []
         self.stage, self.seconds = ASKING, 0.0
-        # When the match took the slots of its players. If a player fails to answer while several matches are open, that counts as one try.
+        # When the match took the slots of its players. If a player that was asked for several matches at the same time does not answer,
+        # that counts as one try.
         self.taken_at, self.has_slots = time.monotonic(), True
         self.result, self.why = None, None
-        # Whether its players must be sent ABORT, whether a referee may still play it on a node, and whether the rules of its game are wrong.
+        # Whether its players must be sent ABORT; whether a referee may still play it on a node; whether the rules of its game are wrong.
         self.is_broken, self.goes_on, self.stops_game = False, False, False
 
     async def go(self) -> None:
-        """Plays the match. A match that is ended while it is being played is broken."""
+        """Plays the match. If the match is ended while it is being played, `is_broken` is set."""
         try:
             await in_thread(self.playing.disk, self.make_directory)
             if played := await (self.play_elsewhere() if self.playing.launcher else self.play_here()):
@@ -101,7 +105,7 @@ class OpenMatch:
             shutil.rmtree(self.directory, ignore_errors=True)
 
     async def can_be_played(self) -> bool:
-        """Begins the match if its players are free, unless it has begun already. Returns whether it has begun."""
+        """Returns whether the match has begun. If it has not, and its players are free, begins it."""
         if self.stage == ASKING and await self.ask() and self.playing.may_begin(self.match):
             self.stage = PLAYING
             await in_thread(self.playing.disk, self.name_players)
@@ -114,7 +118,7 @@ class OpenMatch:
         self.places = list(map(self.players.place, players))
         async with asyncio.TaskGroup() as group:
             asked = [group.create_task(self.info(player, place)) for player, place in zip(players, self.places)]
-        # Errors of this computer do not count against a player.
+        # An error of this computer does not count against a player.
         return not self.why and self.can_begin({player: task.result() for player, task in zip(players, asked)})
 
     async def info(self, player: str, place: str) -> str:
@@ -125,7 +129,7 @@ class OpenMatch:
         answer, is_unknown = verdict.get("verdict", ""), verdict.get("lacks") == "resolver"
         is_silent = done.status is None or answer == "no_answer" or is_unknown
         if is_silent:
-            # Only the elapsed time distinguishes a refused or lost connection from a player that did not answer in time.
+            # A refused or lost connection, and a player that did not answer in time, can be distinguished only by the elapsed time.
             is_refused = done.status is not None and done.seconds < WHOLE
             answer = "its host name is unknown" if is_unknown else f"refused{reason_of(done, player)}" if is_refused else "silent"
         elif done.status or not answer:
@@ -135,7 +139,8 @@ class OpenMatch:
         return "silent" if is_silent else answer
 
     def can_begin(self, answers: dict[str, str]) -> bool:
-        """Returns whether the match can begin after these answers. If not, it waits, or has the reason why it is not played."""
+        """Returns whether the match can begin after these answers. If it cannot, it either waits, or gets the reason why it is not
+        played."""
         missed = {player: answer for player, answer in answers.items() if answer not in FREE}
         for player in answers.keys() - missed.keys():
             self.slots.count_answer(player)
@@ -163,18 +168,18 @@ class OpenMatch:
             file.write(line_of(event))
 
     async def play_here(self) -> bytes | None:
-        """Plays the match on this computer. Returns the referee's output, or None if the match is broken or has not begun."""
+        """Plays the match on this computer, and returns the referee's output. If the match is broken off or has not begun, returns None."""
         if not await self.can_be_played():
             return None
         self.reporter.begins(self.match)
         return self.outcome_of(await run(self.run_words(self.log.absolute())))
 
     def outcome_of(self, done: Done) -> bytes | None:
-        """Returns the output of the referee if the exit status says that the referee has played the match."""
+        """Returns the output of the referee. If the exit status says that the referee has not played the match, returns None."""
         self.seconds = done.seconds
         if done.status:
             self.why, self.is_broken = done.message(), True
-            # A started player may run as the same user, and could have killed the referee.
+            # A started player may run as the same user, so it may have killed the referee.
             if done.status < 0 and (started := [player.name for player in self.players.of(self.match.players)]):
                 self.why += f"; started players that ran: {', '.join(started)}"
         return None if done.status else done.output
@@ -191,7 +196,7 @@ class OpenMatch:
             self.add_event(Other("lost", {"match": self.match.id, "time": int(time.time() * 1_000), "reason": why}))
             self.reporter.line(f"lost {self.match.id} on {job.node or 'no node'}: {why}")
             if job.has_begun:
-                # The referee may continue to run on a node that can no longer be reached.
+                # The referee may still run on a node that can no longer be reached.
                 await asyncio.sleep(SILENCE)
                 await self.abort()
             elif tries_left:
@@ -207,7 +212,7 @@ class OpenMatch:
 
 
 class MatchJob(Job):
-    """A job that plays a match on a node. The job may not send more than a referee can write about the match."""
+    """A job that plays a match on a node. The job must not send more than a referee can write about the match."""
 
     def __init__(self, open_match: OpenMatch) -> None:
         super().__init__(self.take_output, self.take_lines, open_match.playing.launcher.queue_seconds)
@@ -231,7 +236,7 @@ class MatchJob(Job):
             self.take_line(line)
 
     def take_line(self, line: bytes) -> None:
-        """Takes a line of standard error: an event of the log, or a message of the launcher or the referee."""
+        """Handles a line of standard error: an event of the log, or a message of the launcher or the referee."""
         self.count(len(line) + 1)
         if line.startswith(EVENT):
             with open(self.match.log, "ab") as log:
@@ -240,8 +245,8 @@ class MatchJob(Job):
             self.errors = (self.errors + line + b"\n")[-MOST_READ:]
 
     async def play(self) -> Done | None:
-        """Has the launcher run the job. Once it runs, the players are asked, and if they are free, the job plays the match. Returns None if they are
-        not free."""
+        """Has the launcher run the job. When the job runs, the players are asked. If they are free, the job plays the match. Otherwise
+        returns None."""
         match, began = self.match, time.monotonic()
         self.start([word.replace("{match}", match.match.id) for word in match.playing.launcher.command])
         try:

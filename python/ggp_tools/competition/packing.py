@@ -1,7 +1,7 @@
 """Packs the files of an archive, and unpacks an archive that may be hostile.
 
-Programs unpack unusual tar files differently. So `unpack` accepts only the output of `pack`: it makes each header anew from its values, and compares
-it with the given one."""
+Programs unpack unusual tar files differently. So `unpack` accepts only the output of `pack`: from the values of each header it makes a new
+header, which must equal the given one."""
 
 import gzip
 import io
@@ -23,7 +23,7 @@ NAME = re.compile(rf"{WORD}/(({FLAT})/{WORD}|pages/((matches|games|players)/)?{W
 # A name of more than 100 bytes is in an extended header.
 LONG_NAME = re.compile(rb"[0-9]+ path=([^\n]*)\n")
 AT_ONCE, MOST_BYTES = 1 << 20, 8 << 30
-# The maximum sizes of files that `check` reads as a whole, by their names or directories.
+# The maximum sizes of files that `check` reads as a whole, by the file's name or directory.
 MOST_OF_FILES = {
     **dict.fromkeys(("competition.toml", "planned.toml", "earlier"), MOST_OF_COMPETITION),
     **dict.fromkeys(("schedule.tsv", "SHA256SUMS", "again.tsv", "seeds.csv", "ids.key", "rules", "games"), MOST_OF_PLANNED),
@@ -32,9 +32,9 @@ MOST_OF_FILES = {
 }
 # These files come first, because the matches determine which other files are allowed.
 FIRST = "competition.toml", "schedule.tsv"
-# The files of a match, and the maximum number of all other files, including those of games and players.
+# The number of files of a match, and the maximum number of other files, including those of games and players.
 OF_MATCH, OTHER_FILES = re.compile(r"[^/]*/(?:records/(.+)\.json|accounts/(.+)\.txt|logs/(.+)\.jsonl|pages/matches/(.+)\.html)"), 10_000
-# Higher levels take much longer, and save little.
+# Higher levels of compression take much longer, and save little.
 LEVEL = 6
 OTHERWISE = "its bytes are not those that `publish` would write: the difference is"
 
@@ -78,7 +78,8 @@ def read_all(stream: BinaryIO, size: int) -> bytes:
 
 
 def members(stream: BinaryIO) -> Iterator[tuple[str, int]]:
-    """Yields the name and the size of each file in a tar file. Before the next file, the caller must read the bytes of this one with `copy`."""
+    """Yields the name and the size of each file in a tar file. Before the caller asks for the next file, it must read the bytes of this one
+    with `copy`."""
     while any(head := read_all(stream, tarfile.BLOCKSIZE)):
         if head[156:157] == tarfile.XHDTYPE:
             head += read_all(stream, 2 * tarfile.BLOCKSIZE)
@@ -119,7 +120,8 @@ def planned_ids(schedule: pathlib.Path) -> set[str | None]:
 
 
 def is_of_match(name: str, size: int, ids: set[str | None], folder: pathlib.Path) -> bool:
-    """Returns whether a file belongs to a match of the schedule. Refuses an empty file, except for the log of a match that has a record."""
+    """Returns whether a file belongs to a match of the schedule. Refuses an empty file, unless it is the log of a match that has a
+    record."""
     found = OF_MATCH.fullmatch(name)
     match = found and found[found.lastindex]
     if not match or match not in ids:

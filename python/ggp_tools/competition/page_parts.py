@@ -28,8 +28,8 @@ class Part:
 
 @dataclass(frozen=True)
 class Items:
-    """A part of a page whose items come and go. Each item is one HTML element with its name as id. The last element of the opening has the name of the
-    part."""
+    """A part of a page whose items come and go. Each item is one HTML element, with the item's name as its id. The last element that
+    `opening` opens has the name of the part as its id."""
 
     name: str
     opening: str
@@ -44,7 +44,7 @@ PageParts = list[Part | Items]
 
 
 def html_of(template: str, macro: str, **values: object) -> "Markup":
-    """Returns the HTML that a macro of a template makes of values."""
+    """Returns the HTML that a macro of a template makes from these values."""
     return getattr(macros(template), macro)(**values).strip()
 
 
@@ -54,13 +54,15 @@ def part(macro: str, /, has_content: object = True, **values: object) -> Part:
 
 
 def list_part(name: str, title: str, intro: str, rows: list[tuple["Match", str]], most: int, where: str = "") -> Part:
-    """Returns a list of matches without a result, each with a remark. It has at most this many rows, and says how many more there are."""
+    """Returns a list of matches without a result, each with a remark. The list has at most `most` rows, and says how many more there
+    are."""
     texts = {"title": title, "intro": intro, "rows": rows[:most], "more": len(rows[most:]), "where": where}
     return Part(name, html_of("competition", "match_list", **texts) if rows else "")
 
 
 def rows_part(name: str, title: str, heads: list[str], rows: list[Item], nothing: str, control: str = "") -> Items:
-    """Returns a table whose rows come and go, with a text that is shown if there are no rows, and the HTML of a control above the table."""
+    """Returns a table whose rows come and go. `nothing` is shown if there are no rows. `control` is the HTML of a control above the
+    table."""
     opening = html_of("links", "open_table", name=name, title=title, heads=heads, nothing=nothing, control=control)
     return Items(name, opening, tuple(rows), "</tbody></table></div>")
 
@@ -69,13 +71,13 @@ def rows_part(name: str, title: str, heads: list[str], rows: list[Item], nothing
 
 
 def frame(parts: PageParts) -> list[tuple]:
-    """Returns everything that cannot change while a browser shows the page: the parts, and the HTML around their items."""
+    """Returns everything that must not change while a browser shows the page: the parts, and the HTML around their items."""
     return [(part.name,) if isinstance(part, Part) else (part.name, part.opening, part.closing) for part in parts]
 
 
 def item_changes(old: Items, new: Items) -> dict[str, list]:
-    """Returns the names of dropped items, the replaced items with their HTML, and the added ones, the last one first. An added item has its part, the
-    item before which it is inserted, and its HTML. An item that moves is dropped and added."""
+    """Returns the names of dropped items, the replaced items with their HTML, and the added items, the last one first. An added item comes
+    with its part, the item before which it is inserted, and its HTML. An item that moves is dropped and added again."""
     before, after = dict(old.items), dict(new.items)
     kept = [name for name, _ in old.items if name in after]
     if kept != [name for name, _ in new.items if name in before]:

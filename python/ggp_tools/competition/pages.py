@@ -1,4 +1,5 @@
-"""The pages of a competition: a directory of plain HTML that a browser opens without a server. They follow from the files of the competition."""
+"""The pages of a competition: a directory of plain HTML that a browser opens without a server. The pages are made only from the files of
+the competition."""
 
 import functools
 import heapq
@@ -32,7 +33,8 @@ from ggp_tools.templating import environment, page
 if typing.TYPE_CHECKING:
     from markupsafe import Markup
 
-# While matches are played, at least this many seconds pass before the pages are written again. Writing them takes at most a tenth of the time.
+# While matches are played, the pages are written again after at least this many seconds, and so rarely that writing takes at most a tenth
+# of the time.
 SECONDS, SHARE = 2, 10
 # The first page lists at most this many matches, and a crosstable has at most this many players.
 LAST, MOST_CROSSED = 20, 100
@@ -40,7 +42,7 @@ LAST, MOST_CROSSED = 20, 100
 MOST_LISTED = 500
 # Pages are made in batches whose records have about this many bytes.
 TOGETHER = 64 << 20
-# The most that is read of a match's log.
+# At most this many bytes of a match's log are read.
 MOST_OF_LOG, LOG_WORDS = 16 << 20, "16 MiB"
 
 MATCH_HEADS = ["match", "game", "result", "players and goals", "turns", "replaced moves", "begin (UTC)", "seconds"]
@@ -60,7 +62,8 @@ def standings(table: Table, up: str) -> PageParts:
 
 
 def first_ranks(table: Table, is_over: bool) -> list[tuple[str, list[str]]]:
-    """Returns the first three players of a competition, each with a title, or the leader if it is not over. A knockout has no leader."""
+    """Returns the first three players of a competition, each with a title. If the competition is not over, returns only the leader; a
+    knockout has no leader."""
     titles = {1: "Winner", 2: "Second", 3: "Third"} if is_over else {1: "Leader"} if table.by != KNOCKOUT else {}
     by_rank: dict[int, list[str]] = {}
     for rank, line in zip(table.ranks(), table.standings()):
@@ -69,14 +72,14 @@ def first_ranks(table: Table, is_over: bool) -> list[tuple[str, list[str]]]:
 
 
 def seconds_of(log: Beginning) -> str:
-    """Returns a text that says how long a match took. It is empty if the log does not have the times."""
+    """Returns how long a match took, as text. If the log does not have the times, the text is empty."""
     if log.began is None or not log.ended:
         return ""
     return "the clock was set back" if log.is_set_back or log.ended < log.began else f"{(log.ended - log.began) / 1_000:.1f}"
 
 
 def spelt(time: str | None) -> str:
-    """Returns a time of a log to the second."""
+    """Formats the time of an event in a log to the second."""
     return (time or "").replace("T", " ")[:19]
 
 
@@ -109,21 +112,21 @@ def pages_of_all(results: list[Result]) -> dict[str, list[Result]]:
 
 @functools.lru_cache(16)
 def rules_part(rules: Rules) -> Part:
-    """Returns the rules of a game, preceded by the rules that its players get, if these differ."""
+    """Returns the rules of a game. If players get other rules, these come first."""
     player_text = rules.player_rules
     player_sum = sum_of(player_text) if player_text is not None else ""
     return part("rules", text=rules.text, sum=sum_of(rules.text), player_text=player_text, player_sum=player_sum)
 
 
 def match_page(data: bytes, game: Callable[[], Game] | None, answers: dict[tuple[int, int], str], frame: Frame) -> bytes:
-    """Returns the page of a match: that of `ggp-show-record` for its record, with a head."""
+    """Returns the page of a match. It is the page of `ggp-show-record` for the match's record, with a head."""
     return page_of(read_record(data), game, answers, frame)
 
 
 @dataclass(frozen=True)
 class Ended:
-    """What the pages show of a finished match: when it began and ended, its rows on the first page and on pages below it, and what its players did.
-    If the log of the match is too long, only its last lines were read for that."""
+    """What the pages show of a finished match: when it began and ended, its rows on the first page and on pages below it, and the
+    appearances of its players. If the log of the match is too long, these were made from its last lines only."""
 
     result: Result
     begin: str | None
@@ -135,7 +138,7 @@ class Ended:
 
 
 def ended_match(result: Result, record: dict, run: list[Event], is_cut: bool) -> Ended:
-    """Returns what the pages show of a match, from its record and the last run in its log."""
+    """Returns what the pages show of a match, given its record and the last run in its log."""
     log = logged(run)
     begin, end, _ = log.times()
     above, below = (match_row(result, log, up) for up in ("", "../"))
@@ -149,8 +152,8 @@ def need_modules() -> None:
 
 
 class Site:
-    """The contents of a competition's pages, made from its results. `ended` must have the matches of these results. With `shows_gaps`, the first page
-    lists the matches without a record."""
+    """Makes the contents of a competition's pages from its results. `ended` must contain the matches of these results. With `shows_gaps`,
+    the first page lists the matches without a record."""
 
     def __init__(self, plan: Plan, shows_gaps: bool = False) -> None:
         self.plan, self.shows_gaps = plan, shows_gaps
@@ -158,7 +161,8 @@ class Site:
         self.games = {game.name: game for game in plan.competition.games}
 
     def add(self, result: Result, known: Known | None = None) -> bytes:
-        """Reads what the pages show of a match, unless that is known, and returns its record. Raises `NoRecord` if the record is too long."""
+        """Reads what the pages show of a match, unless it is already known, and returns the match's record. Raises `NoRecord` if the record
+        is too long."""
         match = result.match
         data = self.plan.read_record(match)
         log, is_cut = self.plan.folder.part_of_log(match.id, MOST_OF_LOG)
@@ -183,19 +187,19 @@ class Site:
         return named_in(rules if len(rules) <= MOST_RULES else b"", self.games[game].board == BOARDS[1])
 
     def answers(self, result: Result) -> dict[tuple[int, int], str]:
-        """Returns the answers in a match's log that were not expressions, by role and turn, counted from 0."""
+        """Returns the answers in a match's log that were not expressions, by role and turn, both counted from 0."""
         errors = [(appearance.role, error) for appearance in self.ended[result.match.id].appearances for error in appearance.errors]
         return {(role, error.turn - 1): error.answer for role, error in errors if error.error == "IL ?" and error.message}
 
     def match_work(self, result: Result) -> tuple[Callable[[], Game] | None, dict[tuple[int, int], str], Frame]:
-        """Returns the arguments of `match_page` after the record. They include the game, whose legal moves the page lists, if a move was illegal and
-        the rules are not too long."""
+        """Returns the arguments of `match_page` that follow the record. If a move was illegal, and the rules are not too long, they include
+        the game, so that the page can list the legal moves."""
         rules = self.plan.rules[result.match.game].text
         game = functools.partial(game_of, rules) if any(errors["IL"] for errors in result.errors) and len(rules) <= MOST_RULES else None
         return game, self.answers(result), Frame(self.match_head(result), self.named(result.match.game), winner_words(result))
 
     def key_of_page(self, result: Result, data: bytes) -> str:
-        """Returns a checksum of everything from which the page of a match follows."""
+        """Returns a checksum of everything on which the page of a match depends."""
         head = self.plan.competition.name, round_text(self.plan.competition, result.match), result, self.answers(result)
         head += (self.games[result.match.game].board,)
         return sum_of_parts(repr(head).encode(), data, self.plan.rules[result.match.game].sum.encode())
@@ -217,14 +221,14 @@ class Site:
         return list_part("gaps", "Matches without a record", "They do not count.", missing, MOST_LISTED, ", listed in GAPS.tsv")
 
     def span(self, results: list[Result]) -> tuple[str, str]:
-        """Returns when the first match began and the last one ended. The texts are empty if no log has the times."""
+        """Returns when the first match began, and when the last one ended. If no log has the times, the texts are empty."""
         ended = [self.ended[result.match.id] for result in results]
         begins, ends = [match.begin for match in ended if match.begin], [match.end for match in ended if match.end]
         return (spelt(min(begins)), spelt(max(ends))) if begins and ends else ("", "")
 
     def head(self, table: Table, results: list[Result]) -> Part:
         plan = self.plan
-        # A match that another one replaces does not count, as in the table.
+        # As in the table, a match that was replaced by another one does not count.
         count, of_all, (begin, end) = sum(result.match.counts() for result in results), count_of_all(plan), self.span(results)
         counts = {"count": count, "of_all": of_all, "rounds": rounds_words(plan), "begin": begin, "end": end, "first": first_ranks(table, count == of_all)}
         return part("head", name=plan.competition.name, games=list(self.games), forfeit=forfeit_rule(plan.competition), **counts)
@@ -255,7 +259,7 @@ class Site:
 
 
 class PageOf(typing.NamedTuple):
-    """A page: its title, the results and the text that it is made from, and a function that makes its parts."""
+    """A page: its title, the results and the text on which it depends, and a function that makes its parts."""
 
     title: str
     results: list[Result]
@@ -287,17 +291,17 @@ def pages_of(site: Site, tables: list[Table], results: list[Result]) -> dict[str
 
 
 class Pages:
-    """The pages as files of a directory. A page is made again only if its contents have changed."""
+    """Writes the pages as files of a directory. A page is made again only if its contents have changed."""
 
     def __init__(self, plan: Plan, shows_gaps: bool = False, known: Known | None = None) -> None:
         if not known:
             need_modules()
         self.site, self.plan, self.folder, self.known = Site(plan, shows_gaps), plan, plan.folder.pages, known
-        # When the pages may be written again, what each page was made from, and the checksums of the pages.
+        # When the pages may be written again; on what each page depended when it was made; and the checksums of the pages.
         self.next, self.keys, self.sums = 0.0, {}, {}
 
     def write_now_and_then(self, results: Callable[[], list[Result]]) -> None:
-        """Writes the pages of the results that a function returns, unless it has just tried to write them."""
+        """Writes the pages for the results that a function returns. Does nothing if it has tried to write them a short time ago."""
         began = time.monotonic()
         if began < self.next:
             return
@@ -308,14 +312,15 @@ class Pages:
             self.next = ended + max(SECONDS, SHARE * (ended - began))
 
     def write(self, results: list[Result]) -> set[str]:
-        """Writes the pages, and returns their names. Deletes pages of matches, games and players that are gone, and unfinished files."""
+        """Writes the pages, and returns their names. Deletes unfinished files, and the pages of matches, games and players that no longer
+        exist."""
         for name in ("matches", "games", "players"):
             (self.folder / name).mkdir(parents=True, exist_ok=True)
         key = self.sum_of_sources(results) if self.known else ""
         sums = self.known.get("sites", key) if self.known else None
         if not sums or any(sum_or_none(self.folder / name) != digest for name, digest in sums.items()):
             sums = self.write_all(results)
-            # If a file has changed meanwhile, the pages may follow from either version.
+            # If a file changes in the meantime, the pages may show either version.
             if self.known and key == self.sum_of_sources(results):
                 self.known.put("sites", key, sums)
         names = set(sums)
@@ -327,7 +332,7 @@ class Pages:
         return names
 
     def sum_of_sources(self, results: list[Result]) -> str:
-        """Returns a checksum of everything from which the pages follow."""
+        """Returns a checksum of everything on which the pages depend."""
         plan, folder = self.plan, self.plan.folder
         files = [(sum_or_none(folder.record(result.match.id)), sum_or_none(folder.log(result.match.id))) for result in results]
         return sum_of_parts(repr((plan.competition, plan.rules, plan.matches, plan.rounds, self.site.shows_gaps, results, files)).encode())
@@ -343,7 +348,7 @@ class Pages:
         return {name: self.sums[name] for name in [*pages, *(f"matches/{result.match.id}.html" for result in results)]}
 
     def write_matches(self, results: list[Result]) -> None:
-        """Writes the pages of matches, except those that this object has written, or whose checksum is known to be right."""
+        """Writes the pages of matches. Skips pages that this object has written, and pages whose checksum is known to be right."""
         left, size = [], 0
         for result in results:
             name = f"matches/{result.match.id}.html"

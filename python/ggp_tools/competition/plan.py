@@ -1,4 +1,4 @@
-"""Plans a competition: writes its rules and its schedule, lets them grow later, and reads them again."""
+"""Plans a competition: writes its rules and its schedule, extends them later, and reads them again."""
 
 import functools
 import itertools
@@ -32,8 +32,8 @@ PUT_BACK = "undo the change: once matches have been played, the plan can only gr
 
 @dataclass
 class Plan:
-    """A competition with its rules by game, its matches in the order of the schedule, the bytes of competition.toml, its history, and its rounds.
-    `known` is the number of matches that were planned before the plan grew, or None."""
+    """A competition with its rules by game, its matches in the order of the schedule, the bytes of competition.toml, its history, and its
+    rounds. If the plan has grown, `known` is the number of matches that were planned before, otherwise None."""
 
     folder: Folder
     competition: Competition
@@ -59,7 +59,7 @@ class Plan:
         return referee.taking(self.rules[game].is_large)
 
     def read_record(self, match: Match) -> bytes:
-        """Returns the record of a match. If the file is too long for its game, this returns just enough of it to show that."""
+        """Returns the record of a match. If the file is too long for its game, returns just enough bytes to show this."""
         return record_bytes(self.folder, match.id, self.rules[match.game].text)
 
 
@@ -79,7 +79,7 @@ def read_file(path: Path, most: int = MOST_OF_PLANNED + 1) -> bytes:
 
 
 def read_toml_file(path: Path) -> bytes:
-    """Returns the bytes of a competition.toml, or one byte more than the limit if the file is too long."""
+    """Returns the bytes of a competition.toml. If the file is too long, returns one byte more than the limit."""
     return read_file(path, MOST_OF_COMPETITION + 1)
 
 
@@ -110,7 +110,7 @@ def not_planned(path: Path) -> Refused:
 
 
 def sums_text(sums: Mapping[str, str]) -> bytes:
-    """Returns a text with these checksums, by file name, in the format of `sha256sum`."""
+    """Returns the text of a file with these checksums, by file name, in the format of `sha256sum`."""
     return "".join(f"{digest}  {name}\n" for name, digest in sorted(sums.items())).encode("utf-8")
 
 
@@ -133,8 +133,8 @@ def is_played(folder: Folder) -> bool:
 
 
 def is_begun(folder: Folder) -> bool:
-    """Returns whether matches have been played. A plan has a history only once matches have been played, so the history shows this even if the
-    records are gone."""
+    """Returns whether matches have been played. A plan has a history only after matches have been played. So even if the records are gone,
+    the history shows this."""
     return is_played(folder) or bool(history_files(folder))
 
 
@@ -144,7 +144,7 @@ def count_of_matches(folder: Folder) -> int | None:
 
 
 def files_of_origin(plan: Plan) -> list[Path]:
-    """Returns the files from which, besides competition.toml, the schedule follows."""
+    """Returns the files, other than competition.toml, on which the schedule depends."""
     folder = plan.folder
     return [folder.planned, *history_files(folder), *([folder.key] if plan.history.key else []), *([folder.seeds] if plan.competition.seeds else [])]
 
@@ -159,7 +159,8 @@ def refused_plan(folder: Folder, path: Path) -> Unplanned:
 
 
 def schedule_of(folder: Folder, competition: Competition, rules: Mapping[str, Rules], history: History, most: int | None = None) -> Growing:
-    """Returns the schedule that follows from a competition, its history and its records. No round begins after the given number of matches."""
+    """Returns the schedule that follows from a competition, its history and its records. After `most` matches, no further round is
+    planned."""
     roles = {name: len(ground.roles) for name, ground in rules.items()}
     try:
         return grown(history, competition, roles, functools.partial(unverified_result, folder, competition, rules), most)
@@ -170,7 +171,7 @@ def schedule_of(folder: Folder, competition: Competition, rules: Mapping[str, Ru
 
 
 def loaded_games(folder: Folder, competition: Competition, referee: Referee) -> dict[str, Rules]:
-    """Returns the rules of each game, by name. If descriptions are invalid, raises one error for all of them."""
+    """Returns the rules of each game, by name. If descriptions are invalid, raises one error that lists them all."""
     rules_by_name, mistakes = {}, []
     for game in competition.games:
         path, program = folder.path / game.file, referee.taking(game.large)
@@ -202,8 +203,8 @@ def loaded_games(folder: Folder, competition: Competition, referee: Referee) -> 
 
 
 def refuse_addresses(folder: Folder, competition: Competition) -> dict[str, str]:
-    """Refuses players that no match can reach or start, and two players at one address. Returns the current address of each player that has one,
-    because a host name may lead to another player later."""
+    """Refuses players that no match can reach or start, and several players at one address. Returns the current address of each player that
+    has one, because a host name may lead to another player later."""
     from ggp_tools.competition.started_players import mistakes_of_programs
 
     places = places_now(competition)
@@ -213,7 +214,8 @@ def refuse_addresses(folder: Folder, competition: Competition) -> dict[str, str]
 
 
 def seeds_of(folder: Folder, competition: Competition) -> Path | None:
-    """Returns the file with the seeds from another competition, or None. Once matches have been played, this is the copy that `plan` made."""
+    """Returns the file with the seeds from another competition, or None. Once matches have been played, the file is the copy that `plan`
+    made."""
     if not competition.seeds or is_begun(folder) and folder.seeds.exists():
         return folder.seeds if competition.seeds else None
     path = folder.path / competition.seeds
@@ -221,8 +223,9 @@ def seeds_of(folder: Folder, competition: Competition) -> Path | None:
 
 
 def make_plan(path: str, referee: Referee, is_preview: bool = False) -> Plan:
-    """Writes the rules and the schedule of the competition in a directory, and returns the plan. Writes nothing in a preview, after an error, while
-    matches are being played, or if matches have been played and the schedule would not only grow."""
+    """Writes the rules and the schedule of the competition in a directory, and returns the plan. Writes nothing if this is a preview, if
+    there is an error, if matches are being played, or if matches have been played and the changes would do more than extend the
+    schedule."""
     folder = Folder(path)
     text = read_toml_file(folder.competition)
     competition = competition_of_file(folder.competition, text)
@@ -249,7 +252,7 @@ def make_plan(path: str, referee: Referee, is_preview: bool = False) -> Plan:
                 **({folder.seeds: read_file(seeds)} if seeds else {}),
                 **files,
                 folder.description_sums: sums_text({f"{name}.kif": ground.description_sum for name, ground in rules.items()}),
-                # The other files do not count without these checksums, so an interrupted `plan` must run again.
+                # Without these checksums, the other files do not count. So an interrupted `plan` must run again.
                 folder.rule_sums: sums_text({file.name: sum_of(data) for file, data in files.items()}),
                 folder.planned: text,
                 folder.schedule: schedule_text(schedule.matches),
@@ -258,8 +261,8 @@ def make_plan(path: str, referee: Referee, is_preview: bool = False) -> Plan:
 
 
 def history_of(folder: Folder, competition: Competition, rules: Mapping[str, Rules]) -> tuple[History, dict[Path, bytes]]:
-    """Returns the history of a competition that has been played, and the last planned version if it must be stored. If competition.toml now asks for
-    other matches, the history ends with that version."""
+    """Returns the history of a competition that has been played, and the last planned version, if it must be stored. If competition.toml
+    now asks for other matches, the history ends with that version."""
     before, history = planned_before(folder, competition), read_history(folder, competition)
     if before is None or shape(before) == shape(competition):
         return history, {}
@@ -272,7 +275,8 @@ def history_of(folder: Folder, competition: Competition, rules: Mapping[str, Rul
 
 
 def planned_before(folder: Folder, competition: Competition) -> Competition | None:
-    """Returns the competition that `plan` read last, or None. Because matches have been played, refuses changes to values that must stay the same."""
+    """Returns the competition that `plan` read last, or None. Refuses changes to values that must stay the same, because matches have been
+    played."""
     if not folder.planned.exists():
         return None
     before = competition_of_file(folder.planned, read_toml_file(folder.planned), folder.seeds)
@@ -296,7 +300,7 @@ def grows(folder: Folder, file: Path, new: bytes) -> bool:
 
 
 def write_plan(folder: Folder, is_begun: bool, files: dict[Path, bytes]) -> None:
-    """Writes the files of a plan. Once matches have been played, they may only grow; missing ones are written again."""
+    """Writes the files of a plan. After matches have been played, the files may only grow. Missing files are written again."""
     for file, data in files.items():
         if is_begun and file.exists() and not grows(folder, file, data):
             raise Refused(f"{file} would change, but matches have already been played", "undo the change, or use another directory")
@@ -366,7 +370,7 @@ def read_plan(path: str, referee: Referee) -> Plan:
                 refuse_lost_record(folder, growing)
             raise refused_plan(folder, folder.schedule)
     except Refused:
-        # The schedule differs if rounds were paired by records that do not count.
+        # If rounds were paired by records that do not count, the schedule differs.
         if is_by_rounds(competition):
             _, faults, misfits = check_records(Plan(folder, competition, rules, matches_in(rows_of(folder.schedule), competition)), referee)
             if wrong := [f"{folder.record(match)}: {why}" for match, why in {**faults, **misfits}.items()]:
@@ -376,7 +380,7 @@ def read_plan(path: str, referee: Referee) -> Plan:
         refuse_unchanged(history, competition)
     except Misfit as why:
         raise Refused(f"{folder.path}: {why}") from None
-    # The same bytes are the same competition, and parsing many matches takes long.
+    # If the bytes are the same, the competition is the same, and comparing many matches would take long.
     if is_begun(folder) and not (folder.planned.exists() and read_toml_file(folder.planned) == text):
         planned_before(folder, competition)
     return Plan(folder, competition, rules, growing.matches, text, history, growing.rounds.found)
@@ -409,7 +413,8 @@ def rounds_left(plan: Plan) -> int:
 
 
 def next_plan(plan: Plan, results: Mapping[str, Result]) -> Plan | None:
-    """Returns the plan with the next round, which is not written yet, or None if the last round is not over or there are no more rounds."""
+    """Returns the plan with the next round, which is not written yet. If the last round is not over, or there are no more rounds, returns
+    None."""
     if not rounds_left(plan) or any(match.id not in results and match.counts() for match in plan.matches):
         return None
     roles = {name: len(ground.roles) for name, ground in plan.rules.items()}
@@ -419,7 +424,7 @@ def next_plan(plan: Plan, results: Mapping[str, Result]) -> Plan | None:
 
 
 def plan_next_round(plan: Plan, results: Mapping[str, Result]) -> list[Match]:
-    """Plans the next round if there is one and the last one is over, writes the schedule, and returns the new matches."""
+    """If there is a next round and the last one is over, plans it, writes the schedule, and returns the new matches."""
     if not (following := next_plan(plan, results)):
         return []
     write_whole(plan.folder.schedule, schedule_text(following.matches))
@@ -455,7 +460,7 @@ def replaceable_match(plan: Plan, referee: Referee, match_id: str) -> Match:
 
 
 def order_again(path: str, referee: Referee, match_id: str, reason: str) -> Match:
-    """Plans another match in place of this one, with the reason, and returns it."""
+    """Plans another match that replaces this one, with the reason, and returns it."""
     if not REASON.fullmatch(reason):
         raise Refused("--reason: expected 1 to 200 printable ASCII characters, without a space at either end")
     with held(path):
@@ -463,7 +468,7 @@ def order_again(path: str, referee: Referee, match_id: str, reason: str) -> Matc
         match = replaceable_match(plan, referee, match_id)
         history = replace(plan.history, again=(*plan.history.again, Again(plan.next_id(), match.id, reason)))
         schedule = schedule_of(plan.folder, plan.competition, plan.rules, history, len(plan.matches) + 1)
-        # The schedule is written last: after an interruption, `plan` writes it.
+        # The schedule is written last: if this is interrupted, `plan` writes the schedule.
         write_whole(plan.folder.again, again_text(history.again))
         write_whole(plan.folder.schedule, schedule_text(schedule.matches))
     return schedule.matches[-1]

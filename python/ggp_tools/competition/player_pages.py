@@ -22,7 +22,8 @@ LAST_ERRORS = f"The last {MOST_ERRORS}, at most {MOST_OF_MATCH} of each match."
 
 @dataclass(frozen=True)
 class MoveError:
-    """A replaced move: its turn, counted from 1, the error, the move that was played, and, if the log has them, the message and the answer."""
+    """A replaced move: its turn, counted from 1; the error; the move that was played; and, if the log has them, the message and the
+    answer."""
 
     turn: int
     error: str
@@ -51,7 +52,7 @@ class Appearance:
 
 
 def times_of_role(asked: list[Message]) -> tuple[tuple[int, ...], int | None, int | None]:
-    """Returns how many response times of a role fall into each bar, how long its START took, and its longest PLAY."""
+    """Returns how many response times of a role fall into each bar, how long its START took, and how long its longest PLAY took."""
     starts, plays = ([message.ms for message in asked if message.kind == kind] for kind in (START, PLAY))
     counts = Counter(map(bar_of, plays))
     return tuple(counts[bar] for bar in range(BARS)), starts[-1] if starts else None, max(plays, default=None)
@@ -89,7 +90,7 @@ def page_name(player: str) -> str:
 
 
 def standing_texts(table: Table) -> dict[str, str]:
-    """Returns a sentence with the rank, the mean goal and the rating of each player that has played."""
+    """Returns, for each player that has played, a sentence with its rank, its mean goal and its rating."""
     texts, lines = {}, table.standings()
     for rank, line in zip(table.ranks(), lines):
         mean = "none" if line.mean() is None else f"{line.mean():.2f}"
@@ -100,7 +101,7 @@ def standing_texts(table: Table) -> dict[str, str]:
 
 
 def role_rows(appearances: list[Appearance]) -> Iterator[tuple[str, str, list[str]]]:
-    """Yields each game and role of the player, with the goals and times in it."""
+    """Yields a row for each game and role of the player, with the goals and times."""
     by_role = grouped(appearances, lambda appearance: (appearance.result.match.game, appearance.role, appearance.role_name))
     for (game, role, name), own in sorted(by_role.items()):
         goals = [goal for appearance in own if (goal := appearance.goal()) is not None]
@@ -115,7 +116,7 @@ def longest_text(times: list[int | None]) -> str:
 
 
 def reason_of(error: str) -> str:
-    """Returns what an error means. An error of a log may be followed by its reason."""
+    """Returns the meaning of an error. In a log, a reason may follow the error."""
     kind = error.partition(" ")[0]
     if kind == SHORTAGE:
         return "the referee lacked a resource"
@@ -130,7 +131,8 @@ def errors_part(appearances: list[Appearance]) -> Part:
 
 
 def player_parts(competition: str, player: str, standing: str, appearances: list[Appearance]) -> PageParts:
-    """Returns the parts of a player's page before the list of its matches; `standing` is a sentence. Matches that others replace do not count."""
+    """Returns the parts of a player's page before the list of its matches; `standing` is a sentence. Matches that were replaced by others
+    do not count."""
     ordered = sorted((appearance for appearance in appearances if appearance.result.match.counts()), key=lambda appearance: appearance.ended)
     left_out = [again_words(appearance.result.match) for appearance in appearances if not appearance.result.match.counts()]
     goals = goals_plot([goal for appearance in ordered if (goal := appearance.goal()) is not None])

@@ -1,4 +1,5 @@
-"""Plays the matches of a competition that have no lawful record yet, many at the same time, each when its players are free."""
+"""Plays the matches of a competition that have no lawful record yet. It plays many at the same time, and begins each one when its players
+are free."""
 
 import asyncio
 import concurrent.futures
@@ -29,29 +30,33 @@ from ggp_tools.processes import apart
 from ggp_tools.referee import Referee
 from ggp_tools.reporting import NOT_BEGUN, REDRAWN, Reporter
 
-# The players of matches that are ended must answer ABORT within this many seconds.
-ABORT_SECONDS, DISK_THREADS = 3, 8
+# The time limit, in seconds, for ABORT to the players of matches that `play` ends.
+ABORT_SECONDS = 3
+# The number of threads that wait for the disk before a match begins.
+DISK_THREADS = 8
 ENDED = "broken off"
-# The number of interrupts that a signal counts as. After the first interrupt no more matches begin, and the second one ends the open matches.
+# For each signal, the number of interrupts that it counts as. After the first interrupt no more matches begin. The second one ends the open
+# matches.
 INTERRUPTS = {signal.SIGINT: 1, signal.SIGTERM: 2, signal.SIGHUP: 2}
 # An upper bound for the bytes of the names and addresses of a match's players.
 MOST_OF_PLACES = 1 << 20
 
 
 class Playing:
-    """The matches that wait, those that are open, and the outcomes of the others. If `watch` is set, it is called with the results from time to
-    time."""
+    """The waiting matches, the open matches, and the outcomes of all others. If `watch` is set, it is called from time to time with the
+    results."""
 
     def __init__(self, plan: Plan, referee: Referee, reporter: Reporter, at_once: int) -> None:
         self.plan, self.referee, self.reporter = plan, referee, reporter
         self.slots, self.launcher = Slots(plan.competition), plan.competition.launcher
         self.at_once = self.launcher.slots if self.launcher else at_once
-        # `news` is set after an interrupt, and when further matches may be able to begin. `ends` is set when there is another result.
+        # `news` is set after an interrupt, and when it is possible that further matches can begin. `ends` is set when there is another
+        # result.
         self.news, self.ends = asyncio.Event(), asyncio.Event()
         self.players, self.checking = StartedPlayers(plan.folder, plan.competition, referee, reporter), Checking(plan, referee)
         # By match id: the results, and the reasons why matches have none. By game: why no more of its matches begin.
         self.results, self.left, self.stopped = {}, {}, {}
-        # By game: how many seconds the finished matches took, from their INFO.
+        # By game: for each finished match, the seconds from its INFO to its end.
         self.took: dict[str, list[float]] = {}
         self.open: dict[OpenMatch, asyncio.Task] = {}
         self.waiting: deque[Match] = deque()
@@ -63,11 +68,11 @@ class Playing:
         self.watch: Callable[[dict], str | None] | None = None
 
     def may_begin(self, match: Match | None = None) -> bool:
-        """Returns whether more matches may begin, or whether this match may begin, whose players are free."""
+        """Returns whether more matches may begin. If a match is given, whose players are free, returns whether it may begin."""
         return not self.interrupts and not self.is_full and not (match and match.game in self.stopped)
 
     def begin(self) -> None:
-        """Opens matches until as many as allowed have slots, or no further match can begin."""
+        """Opens matches until the maximum number is open, or until no further match can begin."""
         self.searched_at, playing = time.monotonic(), sum(open_match.has_slots for open_match in self.open)
         while self.may_begin() and playing < self.at_once and (match := self.slots.next_match(self.waiting, self.searched_at)):
             open_match = OpenMatch(self, match)
@@ -110,16 +115,16 @@ class Playing:
             self.waiting.append(match)
 
     def stop_game(self, match: Match) -> None:
-        """Begins no more matches of a game, because its rules are wrong. Open matches are played to their ends."""
+        """Because the rules of a game are wrong, begins no more of its matches. Open matches are played to their ends."""
         self.stopped[match.game] = f"{match.game} is not played any more, because {match.id} does not follow its description"
         others = [waiting for waiting in self.waiting if waiting.game == match.game]
         self.left.update((other.id, self.stopped[match.game]) for other in others)
         self.waiting = deque(waiting for waiting in self.waiting if waiting.game != match.game)
-        waiting = f"{counted(len(others), 'waiting match')} of it will not begin"
+        waiting = f"{counted(len(others), 'waiting match')} of this game will not begin"
         self.reporter.line(f"stopped {match.game}, because {match.id} does not follow its description; {waiting}")
 
     async def go(self) -> None:
-        """Plays until no match is open, and either none waits or no more may begin."""
+        """Plays until no match is open, and no further match waits or may begin."""
         async with asyncio.TaskGroup() as self.group:
             shown = [self.group.create_task(self.show_progress()), self.group.create_task(self.show_results())]
             while self.is_going_on():
@@ -130,8 +135,8 @@ class Playing:
         self.reporter.clear()
 
     def is_going_on(self) -> bool:
-        """Returns whether a match is open, or one waits and may begin. No match begins if the output is no longer read, or if the journal cannot be
-        written."""
+        """Returns whether a match is open, or a match waits and may begin. If the output is no longer read, or the journal cannot be
+        written, no match may begin."""
         if self.reporter.fault and not self.interrupts:
             self.interrupts = 1
         if (fault := self.reporter.journal.fault) and not self.is_full:
@@ -163,7 +168,7 @@ class Playing:
             await asyncio.sleep(REDRAWN)
 
     async def show_results(self) -> None:
-        """Calls `watch` in a thread when there are new results, so that matches can continue meanwhile."""
+        """When there are new results, calls `watch` in a thread, so that matches can continue in the meantime."""
         while self.watch:
             await self.ends.wait()
             self.ends.clear()
@@ -182,8 +187,8 @@ class Playing:
             self.group.create_task(self.end_open_matches())
 
     async def end_open_matches(self) -> None:
-        """Ends the matches whose players are being asked or that are being played. Sends ABORT to the players of matches that are being played.
-        Matches that are being checked go on."""
+        """Ends the matches whose players are being asked, and the matches that are being played. Sends ABORT to the players of the latter.
+        Matches that are being checked continue."""
         ended = {open_match: task for open_match, task in self.open.items() if open_match.stage in (ASKING, PLAYING)}
         broken = [open_match for open_match in ended if open_match.stage == PLAYING]
         for task in ended.values():
@@ -196,8 +201,8 @@ class Playing:
         await self.abort(places, ABORT_SECONDS, going_on)
 
     async def abort(self, places: dict[str, list[str]], seconds: float | None = None, going_on: Container[str] = ()) -> None:
-        """Sends ABORT to the players of these matches, within `seconds` if that is given. If a player does not answer, or a node may still be playing
-        a match, the directory of the match stays, so that the next `play` sends ABORT again."""
+        """Sends ABORT to the players of these matches. If `seconds` is given, they must answer within this time. If a player does not
+        answer, or a node may still be playing a match, the directory of the match stays, so that the next `play` sends ABORT again."""
         folder = self.plan.folder
         for match in places:
             leave_players(folder.open / match)
@@ -210,9 +215,10 @@ class Playing:
                 shutil.rmtree(folder.open / match, ignore_errors=True)
 
     async def play_rounds(self) -> None:
-        """Plays the matches that wait, and then one round after the other, unless matches are missing. A competition that pauses plays one round."""
+        """Plays the waiting matches, and then one round after another as long as no match is missing. If the competition pauses, plays only
+        one round."""
         for number, count in INTERRUPTS.items():
-            # A hang-up that is ignored, for example under nohup, stays ignored.
+            # If a hang-up is ignored, for example under nohup, it stays ignored.
             if number != signal.SIGHUP or signal.getsignal(number) != signal.SIG_IGN:
                 asyncio.get_running_loop().add_signal_handler(number, self.interrupt, count)
         may_pair = not self.plan.competition.pause or not self.waiting
@@ -233,9 +239,10 @@ class Playing:
 def seconds_left(
     waiting: Iterable[Match], open_matches: Iterable[tuple[Match, float]], took: Mapping[str, list[float]], concurrent: Mapping[str, int], at_once: int
 ) -> float | None:
-    """Estimates how many seconds the remaining matches take, or returns None before the first one has ended. This is the maximum of three times: for
-    the longest open match, for the player with the most left to play, and for all matches if as many as allowed are played at the same time.
-    `open_matches` has for each match how long it has been open. If a game has no finished matches, uses the mean of the others."""
+    """Estimates how many seconds the remaining matches take. Returns None until the first match has ended. The estimate is the maximum of
+    three times: for the longest open match, for the player with the most left to play, and for all matches if as many as allowed are played
+    at the same time. `open_matches` has the time for which each match has been open. If a game has no finished matches, the mean of the
+    other games is used."""
     times = [seconds for game in took.values() for seconds in game]
     if not times:
         return None
@@ -257,8 +264,8 @@ def seconds_left(
 
 
 def open_directories(plan: Plan) -> dict[pathlib.Path, list[str]]:
-    """Returns the directories of matches that were open when an earlier `play` was killed, including matches of an earlier plan, with the players
-    that the directories name."""
+    """Returns the directories of matches that were open when an earlier `play` was killed, each with the players that it names. The matches
+    may belong to an earlier plan."""
     ids, directories = {match.id for match in plan.matches}, {}
     for directory in sorted(plan.folder.open.iterdir()):
         if directory.is_symlink() or not directory.is_dir():
@@ -273,7 +280,8 @@ def open_directories(plan: Plan) -> dict[pathlib.Path, list[str]]:
 
 
 def abort_open_matches(playing: Playing, directories: dict[pathlib.Path, list[str]]) -> None:
-    """Sends ABORT to the players of matches that were open when an earlier `play` was killed. Players that it had started have ended by now."""
+    """Sends ABORT to the players of matches that were open when an earlier `play` was killed. The players that this `play` had started have
+    ended by now."""
     left = {}
     for directory, places in directories.items():
         others = [place for place in places if place.partition("@")[0] not in playing.players.players]
@@ -287,8 +295,8 @@ def abort_open_matches(playing: Playing, directories: dict[pathlib.Path, list[st
 
 
 def set_all_aside(playing: Playing, faults: dict[str, str]) -> None:
-    """Renames the files that do not count, because the record has one of these faults or is missing, and reports what happens to each match. A match
-    that was replaced by another one is not played again."""
+    """Renames files that do not count, because the record has one of these errors or is missing. Reports what happens to each match. A
+    match that was replaced by another one is not played again."""
     for match in playing.plan.matches:
         if match.id not in playing.results and set_aside(playing.plan, match.id):
             fault = faults.get(match.id)
@@ -313,7 +321,7 @@ def prepare(playing: Playing) -> None:
         raise Refused(f"{folder.records / others[0]} belongs to no match of the schedule{more}", advice)
     directories = open_directories(plan)
     if count := sum(bool(places) and not folder.record(directory.name).exists() for directory, places in directories.items()):
-        # Checking the records takes a while, and waiting for players that do not answer takes longer.
+        # This is reported first, because checking the records takes a while, and waiting for players that do not answer takes even longer.
         reporter.line(f"open {counted(count, 'match')} of an earlier `play`; {'its' if count == 1 else 'their'} players are sent ABORT")
     reporter.draw("checking the records")
     playing.results, faults, misfits = check_records(plan, playing.referee)
@@ -328,11 +336,11 @@ def prepare(playing: Playing) -> None:
 
 
 def play(playing: Playing) -> dict[str, str]:
-    """Plays all matches. The caller holds the lock of the directory. Returns the reason for each match without a lawful record."""
-    # A shell usually lets a process open too few files for many open matches.
+    """Plays all matches. The caller must hold the lock of the directory. Returns the reason for each match without a lawful record."""
+    # Usually a shell lets a process open too few files for many open matches.
     allow_files()
     if sys.version_info < (3, 12):
-        # The default is a thread for each process.
+        # By default, there would be a thread for each process.
         asyncio.set_child_watcher(asyncio.PidfdChildWatcher())
     prepare(playing)
     with apart(playing.plan.folder.mark()):

@@ -1,4 +1,4 @@
-"""Small SVG plots for pages: ratings with their intervals, goals over time, and response times."""
+"""Makes small SVG plots for pages: ratings with their intervals, goals over time, and response times."""
 
 import itertools
 import typing
@@ -22,7 +22,7 @@ def drawn(plot: str, **values: object) -> "Markup":
 
 
 def rating_plot(lines: list[Line]) -> str:
-    """Plots the ratings of players with their intervals. The text is empty for fewer than two ratings."""
+    """Plots the ratings of players with their intervals. If there are fewer than two ratings, the text is empty."""
     rated = [line for line in lines if line.rating and line.rating.rating is not None][:MOST_ROWS]
     if len(rated) < 2:
         return ""
@@ -48,13 +48,14 @@ def ticks(least: int, most: int) -> range:
 
 
 def sampled(values: list[float]) -> list[tuple[int, float]]:
-    """Returns as many values as fit into a plot, each with its number counted from 1. The last one is among them."""
+    """Returns as many values as fit into a plot, including the last one, each with its number, counted from 1."""
     step = max(1, -(-len(values) // MOST_POINTS))
     return [(at + 1, value) for at, value in enumerate(values) if (len(values) - 1 - at) % step == 0]
 
 
 def goals_plot(goals: list[int]) -> str:
-    """Plots the goals of matches in their order as dots, and the running mean as a line. The text is empty for fewer than two matches."""
+    """Plots the goals of matches in their order as dots, and the running mean as a line. If there are fewer than two matches, the text is
+    empty."""
     if len(goals) < 2:
         return ""
     means = [total / count for count, total in enumerate(itertools.accumulate(goals), 1)]
@@ -77,7 +78,7 @@ def spelt_time(milliseconds: int) -> str:
 
 
 def times_plot(counts: list[int]) -> str:
-    """Plots how many response times fall into each bar. The text is empty if there are none."""
+    """Plots how many response times fall into each bar. If there are no response times, the text is empty."""
     if not any(counts):
         return ""
     most, wide = max(counts), (WIDTH - 20) / BARS

@@ -1,11 +1,12 @@
-"""Ratings by the model of Bradley and Terry: a player with strength s beats one with strength t with the chance s / (s + t).
+"""Computes ratings by the model of Bradley and Terry: a player with strength s beats a player with strength t with probability s / (s + t).
 
-The strengths are those that make the results most likely. A draw counts as half a win for each player. The strengths are unique, up to a factor, if
-every subset of the players has points against the other players (Ford, "Solution of a ranking problem from binary comparisons", The American
-Mathematical Monthly 64, 1957). So the players are divided into the largest groups in which this holds. Each group is rated separately, and a player
-without a group has no rating. A rating is 400 times the decimal logarithm of the strength. The mean rating of a group is 0, unless the group has
-anchors. The 95% intervals follow from the observed information: the negative second derivatives of the logarithm of the likelihood, inverted for
-ratings whose sum is 0. In tests with eight players of known strengths, 763 of 800 intervals contain the strength."""
+The strengths are those that make the results most likely. A draw counts as half a win for each player. The strengths are unique, up to a
+factor, if every subset of the players has points against the other players (Ford, "Solution of a ranking problem from binary comparisons",
+The American Mathematical Monthly 64, 1957). So the players are divided into the largest groups in which this holds. Each group is rated
+separately, and a player without a group has no rating. A rating is 400 times the decimal logarithm of the strength. The mean rating of a
+group is 0, unless the group has anchors. The 95% intervals follow from the observed information: the negative second derivatives of the
+logarithm of the likelihood, inverted for ratings whose sum is 0. In tests with eight players of known strengths, 763 of 800 intervals
+contain the strength."""
 
 import math
 from collections.abc import Mapping, Sequence
@@ -21,10 +22,10 @@ MOST_STEPS, CLOSE = 100, 1e-8
 
 
 def groups(points: numpy.ndarray) -> list[list[int]]:
-    """Returns the largest groups of players in which a chain leads from each player to every other player, in the order of their first players. In a
-    chain, each player has points against the next one."""
+    """Returns the largest groups of players in which a chain leads from each player to every other player. In a chain, each player has
+    points against the next one. The groups are in the order of their first players."""
     leads = (points > 0) | numpy.eye(len(points), dtype=bool)
-    # Each step doubles the length of the chains.
+    # Each step doubles the length of the chains that are considered.
     for _ in range(len(points).bit_length()):
         leads = leads.astype(numpy.float32) @ leads.astype(numpy.float32) > 0
     both = leads & leads.T
@@ -32,10 +33,10 @@ def groups(points: numpy.ndarray) -> list[list[int]]:
 
 
 def likeliest(points: numpy.ndarray) -> list[tuple[float, float]] | None:
-    """Returns the ratings of a group, each with half its interval, or None if they cannot be found.
+    """Returns the ratings of a group, each with half its interval, or None if they cannot be computed.
 
-    This is Newton's method. A step that would change the difference between two players that have met by up to d is shortened to log(1 + d) / d of
-    its length. Then the likelihood grows with each step, because no second derivative grows by more than the factor 1 + d."""
+    This is Newton's method. A step that would change the difference between two players that have met by up to d is shortened to log(1 + d)
+    / d of its length. Then the likelihood grows with each step, because no second derivative grows by more than the factor 1 + d."""
     met, won, logs = points + points.T, points.sum(axis=1), numpy.zeros(len(points))
     for _ in range(MOST_STEPS):
         chances = 1 / (1 + numpy.exp(numpy.clip(logs - logs[:, None], -700, 700)))
@@ -56,8 +57,8 @@ def likeliest(points: numpy.ndarray) -> list[tuple[float, float]] | None:
 
 
 def rated(players: Sequence[str], points: Mapping[tuple[str, str], float], anchors: Mapping[str, int] = MappingProxyType({})) -> dict[str, Rating]:
-    """Returns the rating of each player. `points` has the points of each pair's first player against the second: 1 for a win, a half for a draw. The
-    ratings of a group with anchors are shifted, so that the anchors have the given mean."""
+    """Returns the rating of each player. `points` has the points of each pair's first player against the second: 1 for a win, and a half
+    for a draw. The ratings of a group with anchors are shifted, so that the anchors have the given mean."""
     numbers, matrix = {player: number for number, player in enumerate(players)}, numpy.zeros((len(players), len(players)))
     for (player, opponent), count in points.items():
         matrix[numbers[player], numbers[opponent]] = count

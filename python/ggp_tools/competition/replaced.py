@@ -1,4 +1,4 @@
-"""The replaced moves of open and finished matches."""
+"""Finds the replaced moves of open and finished matches."""
 
 from collections.abc import Iterable, Mapping, Sequence
 from dataclasses import dataclass
@@ -7,7 +7,7 @@ from ggp_tools.competition.schedule import Match
 from ggp_tools.match_log import SHORTAGE
 
 Texts = Sequence[str]
-# The maximum numbers of listed replaced moves, in total and of one match.
+# The maximum number of replaced moves that are listed, in total and for one match.
 MOST_REPLACED, MOST_OF_MATCH = 20, 3
 
 
@@ -31,8 +31,8 @@ def newest(moves: Iterable[Replaced]) -> list[Replaced]:
 
 
 def replaced_moves(match: Match, turns: Iterable[tuple[Texts, Texts]], moments: Mapping[int, float], otherwise: float) -> list[Replaced]:
-    """Returns the last replaced moves of a match, from the moves and the errors of its turns. A move that was replaced because the referee lacked a
-    resource does not count. `otherwise` is used for a turn whose time is unknown."""
+    """Returns the last replaced moves of a match, from the moves and the errors of its turns. A move that was replaced because the referee
+    lacked a resource does not count. If the time of a turn is unknown, `otherwise` is used."""
     replaced: list[Replaced] = []
     for turn, (moves, errors) in enumerate(turns, 1):
         for role, error in enumerate(errors):

@@ -1,4 +1,4 @@
-"""The result of a match, from its record and the forfeit rules of the competition, and its row in matches.jsonl."""
+"""Computes the result of a match from its record and the forfeit rules of the competition, and its row in matches.jsonl."""
 
 import json
 import threading
@@ -17,9 +17,9 @@ if TYPE_CHECKING:
     from ggp_tools.descriptions.loading import Rules
 
 WON, DRAWN, LOST = "won", "drawn", "lost"
-# The goal of a single opponent of a player that forfeits. Several opponents share it if the match was aborted.
+# The goal that a player's single opponent gets if the player forfeits. If the match was aborted, several opponents share it.
 FULL_GOAL = 100
-# The maximum length of a wrong value that is quoted.
+# The maximum length of a wrong value in a message.
 MOST_CITED = 200
 # A game caches its results for a state, so only one thread at a time may use it.
 GAMES = threading.Lock()
@@ -27,8 +27,8 @@ GAMES = threading.Lock()
 
 @dataclass(frozen=True)
 class Retirement:
-    """Why a role was retired or has forfeited its match: the kinds of its errors, the last turn with an error, and the first such turn if these turns
-    are not consecutive."""
+    """The reason why a role was retired or has forfeited its match: the kinds of its errors, the last turn with an error, and, if the turns
+    with errors are not consecutive, the first such turn."""
 
     errors: tuple[str, ...]
     turn: int
@@ -43,8 +43,8 @@ class Retirement:
 
 @dataclass(frozen=True)
 class Result:
-    """The result in a record: for each role the goal (none if the match has none), the number of errors of each kind, and why it was retired.
-    `has_forfeits` says whether retired players forfeit, and `lapses` which players forfeit because of too many replaced moves."""
+    """The result in a record: for each role the goal (none if the match has none), the number of errors of each kind, and why it was
+    retired. `has_forfeits` says whether retired players forfeit. `lapses` says which players forfeit because of too many replaced moves."""
 
     match: Match
     goals: tuple[int, ...]
@@ -69,9 +69,9 @@ class Result:
         return {role: why for whys in (self.lapses, retired) for role, why in enumerate(whys) if why}
 
     def counted(self) -> tuple[int | None, ...]:
-        """Returns the goals that count, by role, each None if the match has no goals. A player that forfeits gets 0. A single opponent gets the full
-        goal, because its own goal depends on moves that no player chose. Several opponents keep their goals, or share the full goal if there are
-        none."""
+        """Returns the goals that count, by role. If the match has no goals, each is None. A player that forfeits gets 0. A single opponent
+        gets the full goal, because its own goal depends on moves that no player chose. Several opponents keep their goals, or share the
+        full goal if there are none."""
         lost, roles = self.forfeits(), range(len(self.retirements))
         if not lost:
             return self.goals or (None,) * len(roles)
@@ -80,13 +80,13 @@ class Result:
         return tuple(0 if role in lost else kept[role] for role in roles)
 
     def worths(self) -> tuple[int, ...] | None:
-        """Returns numbers that order the players of the match, by role: the goals that count, and -1 for a forfeit. Returns None if there are no
-        goals."""
+        """Returns numbers that order the players of the match, by role: the goal that counts, or -1 for a forfeit. If there are no goals,
+        returns None."""
         lost, goals = self.forfeits(), self.counted()
         return None if None in goals else tuple(-1 if role in lost else goal for role, goal in enumerate(goals))
 
     def outcome(self, role: int) -> str | None:
-        """Returns whether a role has won, drawn or lost. Returns None if the match has one role, or no goals that count."""
+        """Returns whether a role has won, drawn or lost. If the match has one role, or no goals that count, returns None."""
         worth = self.worths() or ()
         others = worth[:role] + worth[role + 1 :]
         if not others:
@@ -97,7 +97,7 @@ class Result:
 
 
 def forfeit_words(result: Result) -> str:
-    """Says who has forfeited a match, why, and which goals count. The text is empty if there is no forfeit."""
+    """Says who has forfeited a match, why, and which goals count. If there is no forfeit, the text is empty."""
     lost, players = result.forfeits(), result.match.players
     if not lost:
         return ""
@@ -106,12 +106,12 @@ def forfeit_words(result: Result) -> str:
 
 
 def winner_words(result: Result) -> str:
-    """Says who won a match, or who drew. The text is empty if the match has one role, or no goals that count."""
+    """Says who won a match, or who drew. If the match has one role, or no goals that count, the text is empty."""
     return winner_of_worths(result.match.players, result.worths() or ())
 
 
 def again_words(match: Match) -> str:
-    """Says why a match does not count any more."""
+    """Says why a match no longer counts."""
     return f"{match.id} does not count: {match.why_not()}"
 
 
@@ -126,7 +126,7 @@ def remarks(result: Result) -> Iterator[str]:
 
 
 def fault_of_record(record: dict, match: Match, strikes: int) -> str | None:
-    """Returns how a lawful record differs from its match, or None."""
+    """Returns how a lawful record differs from what its match requires, or None."""
     expected = {
         "matchId": match.id,
         "players": list(match.players),
@@ -152,7 +152,8 @@ def kind_of(error: str) -> str:
 
 
 def retirement_of(record: dict, role: int) -> Retirement | None:
-    """Returns why a role was retired, or None if it was not. A role is retired if its moves were replaced in `strikes` turns in a row."""
+    """If a role was retired, returns the reason, otherwise None. A role is retired if its moves were replaced in `strikes` turns in a
+    row."""
     row: list[str] = []
     for number, turn in enumerate(record["errors"] if record["strikes"] else (), 1):
         if not turn[role]:
@@ -165,7 +166,7 @@ def retirement_of(record: dict, role: int) -> Retirement | None:
 
 
 def result_of(record: dict, match: Match, has_forfeits: bool = False, lapses: tuple[Retirement | None, ...] = ()) -> Result:
-    """Returns the result of a match from its record. The class explains `has_forfeits` and `lapses`."""
+    """Returns the result of a match from its record. The docstring of `Result` explains `has_forfeits` and `lapses`."""
     roles = range(len(match.players))
     errors = tuple(Counter(kind_of(turn[role]) for turn in record["errors"] if turn[role]) for role in roles)
     retirements = tuple(retirement_of(record, role) for role in roles)
@@ -174,8 +175,8 @@ def result_of(record: dict, match: Match, has_forfeits: bool = False, lapses: tu
 
 
 def lapse_of(record: dict, data: bytes, rules: "Rules", role: int, most: int) -> Retirement | None:
-    """Returns why a role has lost a match because of this many replaced moves, or None. A turn does not count if, by the ground rules, the role has
-    only one legal move."""
+    """If a role has lost a match because of this many replaced moves, returns the reason, otherwise None. If the ground rules give the role
+    only one legal move in a turn, the turn does not count."""
     errors, lapses = [turn[role] for turn in record["errors"]], []
     if len(errors) - errors.count("") < most:
         return None
@@ -192,20 +193,20 @@ def lapse_of(record: dict, data: bytes, rules: "Rules", role: int, most: int) ->
 
 
 def counted_result(record: dict, data: bytes, match: Match, competition: Competition, rules: "Rules") -> Result:
-    """Returns the result of a match from its record, which was read from these bytes, under the rules of its competition."""
+    """Returns the result of a match under the rules of its competition. `record` was parsed from the bytes `data`."""
     most, roles = competition.faults.replaced, range(len(match.players))
     lapses = tuple(lapse_of(record, data, rules, role, most) for role in roles) if most else ()
     return result_of(record, match, competition.forfeit, lapses)
 
 
 def read_record(data: bytes) -> dict:
-    """Parses a lawful record without its states."""
+    """Parses a lawful record, but not its states."""
     return json.loads(without_states(data))
 
 
 def result_keys(result: Result) -> dict[str, object]:
-    """Returns the keys about the end of a match. If they apply, there are also keys about who has forfeited it, why, and which goals count, about its
-    round, its replacement, and players that have withdrawn."""
+    """Returns the keys about the end of a match. If there is a forfeit, they say whose it is, why, and which goals count. There are also
+    keys about the round, about rematches, and about players that have withdrawn, if these exist."""
     match, keys = result.match, {"goals": result.goals}
     if lost := result.forfeits():
         keys["forfeit"] = [{"player": match.players[role], "errors": why.errors, "turn": why.turn} for role, why in lost.items()]
@@ -216,8 +217,8 @@ def result_keys(result: Result) -> dict[str, object]:
 
 
 def match_line(result: Result, sums: Mapping[str, str | None], logged: Beginning, broken: list[dict[str, object]]) -> bytes:
-    """Returns a match as one line of JSON. `sums` has the checksums of the record, of the rules, and of the description from which these were made, and
-    `broken` the broken answers with their reasons."""
+    """Returns a match as one line of JSON. `sums` has the checksums of the record, of the rules, and of the description from which these
+    were made, and `broken` has the broken answers with their reasons."""
     match = result.match
     values = {
         "id": match.id,

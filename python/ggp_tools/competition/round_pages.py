@@ -14,9 +14,9 @@ from ggp_tools.competition.table_text import count_of_planned, points_text
 
 # A round, a pair of players (the second may be missing), and their points, goals and matches.
 Row = tuple[int, tuple[str, str], list[str]]
-# A player in a bracket, its points, and whether it advances. The name is empty as long as it is not known.
+# A place in a bracket: the player, its points, and whether it advances. As long as the player is not known, its name is empty.
 Place = tuple[str, str, bool]
-# A bracket shows only rounds with at most this many pairs. BYE is shown instead of a missing opponent.
+# A bracket shows only rounds with at most this many pairs. If a player has no opponent, BYE is shown instead.
 MOST_PAIRS, BYE = 32, "(bye)"
 
 
@@ -26,7 +26,7 @@ def count_of_all(plan: Plan) -> int:
 
 
 def rounds_words(plan: Plan) -> str:
-    """Says how many rounds are planned, and how many matches later rounds have. The text is empty if there are no rounds."""
+    """Says how many rounds are planned, and how many matches later rounds have. Without rounds, the text is empty."""
     if not plan.rounds:
         return ""
     left = matches_to_come(plan.competition, plan.rounds)
@@ -35,7 +35,7 @@ def rounds_words(plan: Plan) -> str:
 
 
 def round_text(competition: Competition, match: Match) -> str:
-    """Names the round of a match. The text is empty if it has none."""
+    """Names the round of a match. If the match has no round, the text is empty."""
     return f"Round {match.round} of {rounds_of(competition)}." if match.round else ""
 
 

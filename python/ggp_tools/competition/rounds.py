@@ -1,5 +1,6 @@
-"""The rounds of a Swiss competition and of a knockout: pairs the players of a round by the results of the earlier rounds, as "Swiss and knockout" in
-docs/COMPETITION.md describes it. A pairing of two players has a match in each game for each order of the roles."""
+"""Plans the rounds of a Swiss competition and of a knockout. The results of the earlier rounds determine the pairs of the next one, as
+"Swiss and knockout" in docs/COMPETITION.md describes it. When two players are paired, they play a match in each game for each order of the
+roles."""
 
 import itertools
 from collections import Counter, defaultdict
@@ -10,14 +11,14 @@ from ggp_tools.competition.competition_file import KNOCKOUT, ROUND_KINDS, SWISS,
 from ggp_tools.competition.results import DRAWN, WON, Result
 from ggp_tools.printable import counted
 
-# The round and the two players of a pairing.
+# A pairing: its round and its two players.
 Meeting = tuple[int, frozenset[str]]
 
 
 @dataclass(frozen=True)
 class Round:
-    """A round: its number, counted from 1, its pairs, its byes, and the players that were withdrawn before it because they were absent, with the
-    reason."""
+    """A round: its number, counted from 1; its pairs; its byes; and the players that were withdrawn before it because they were absent,
+    with the reason."""
 
     number: int
     pairs: tuple[tuple[str, str], ...]
@@ -46,7 +47,8 @@ class Scores:
         self.met: Counter[frozenset[str]] = Counter()
 
     def count_round(self, found: Round, withdrawn: Mapping[str, str], of_meeting: Mapping[Meeting, list[Result]]) -> None:
-        """Counts the pairs and the byes. If a match is not played or does not count because a player has withdrawn, it gives points like a bye."""
+        """Counts the pairs and the byes. A match that is not played, or does not count, because a player has withdrawn gives points like a
+        bye."""
         for bye in found.byes:
             self.byes[bye] += 1
             self.points[bye] += self.meeting
@@ -66,7 +68,8 @@ class Scores:
             self.goals[player] += result.counted()[role] or 0
 
     def buchholz(self, player: str) -> float:
-        """Returns the sum of the points of all opponents. An opponent counts as often as it was met."""
+        """Returns the sum of the points of all opponents. If the player has met an opponent several times, that opponent counts each
+        time."""
         return sum(self.points[opponent] for opponent in self.opponents[player])
 
     def swiss_order(self, player: str) -> tuple[float, float]:
@@ -74,7 +77,7 @@ class Scores:
 
 
 def rounds_of(competition: Competition) -> int:
-    """Returns how many rounds a competition has; 0 if it is not planned by rounds."""
+    """Returns how many rounds a competition has, or 0 if it is not planned by rounds."""
     form = competition.form
     if form.kind == KNOCKOUT:
         return (len(competition.players) - 1).bit_length()
@@ -98,7 +101,7 @@ def matches_to_come(competition: Competition, rounds: Sequence[Round]) -> int:
 
 
 def withdrawn_by(competition: Competition, rounds: Iterable[Round]) -> dict[str, str]:
-    """Returns the players that have withdrawn, or were withdrawn before one of these rounds, each with the reason."""
+    """Returns the players that have withdrawn, or that were withdrawn before one of these rounds, each with the reason."""
     return {name: why for found in rounds for name, why in found.absent} | competition.withdrawn()
 
 
@@ -125,8 +128,8 @@ def paired(order: Sequence[str], met: Counter[frozenset[str]]) -> list[tuple[str
 
 
 def exchange(pairs: list[tuple[str, str]], at: int, met: Counter[frozenset[str]]) -> None:
-    """Swaps a player of a pair with the nearest pair above, or else below, that makes two pairs that have not met. If there is no such pair, this
-    pair stays."""
+    """Exchanges a player of a pair with a player of the nearest pair above, or else below, if then neither pair has met before. If there is
+    no such pair, this pair stays."""
     first, other = pairs[at]
     for beside in (*range(at - 1, -1, -1), *range(at + 1, len(pairs))):
         high, low = pairs[beside]
@@ -140,14 +143,14 @@ def swiss_round(competition: Competition, number: int, scores: Scores, withdrawn
     order = sorted((player.name for player in competition.players if player.name not in withdrawn), key=scores.swiss_order)
     byes: tuple[str, ...] = ()
     if len(order) % 2:
-        # The lowest in the standings of the players with the fewest byes.
+        # Of the players with the fewest byes, the lowest in the standings gets the bye.
         byes = (min(reversed(order), key=lambda player: scores.byes[player]),)
         order.remove(byes[0])
     return Round(number, tuple(paired(order, scores.met)), byes)
 
 
 def bracket(count: int) -> list[int]:
-    """Returns the seeds, counted from 0, in the order of the bracket, filled up to a power of two."""
+    """Returns the seeds, counted from 0, in the order of the bracket, extended to a power of two."""
     seeds = [0]
     while len(seeds) < count:
         seeds = [place for seed in seeds for place in (seed, 2 * len(seeds) - 1 - seed)]
@@ -155,7 +158,8 @@ def bracket(count: int) -> list[int]:
 
 
 def winner(pair: tuple[str, str], results: Collection[Result], scores: Scores, withdrawn: Mapping[str, str], seeds: Sequence[str]) -> str | None:
-    """Returns the winner of a pairing that is over, or None if both players withdrew before all its matches were played. `scores` must be empty."""
+    """Returns the winner of a pairing that is over. If both players withdrew before all its matches were played, returns None. `scores`
+    must be empty."""
     left = [name for name in pair if name not in withdrawn]
     for result in results:
         scores.count_result(result)
@@ -264,8 +268,8 @@ def meetings(competition: Competition, found: Round) -> list[tuple[str, tuple[st
 
 
 def scores_of(competition: Competition, rounds: Sequence[Round], results: Iterable[Result], withdrawn: Mapping[str, str] | None = None) -> Scores:
-    """Returns the scores of these rounds. Uses only the results that count if these players have withdrawn. By default, these are the players that
-    competition.toml or the rounds name as withdrawn."""
+    """Returns the scores of these rounds. `withdrawn` has the players that have withdrawn, which determines the results that count. By
+    default, these are the players that competition.toml or the rounds name as withdrawn."""
     withdrawn = withdrawn_by(competition, rounds) if withdrawn is None else withdrawn
     scores, counted = Scores(competition), [result for result in results if not competition.is_void(result.match.players, withdrawn)]
     of_meeting = by_meeting(counted)

@@ -1,4 +1,5 @@
-"""The matches of a competition: who plays whom in which game, and schedule.tsv. The same competition gives the same matches."""
+"""Computes the matches of a competition: the game and the players of each, and schedule.tsv. The same competition always gives the same
+matches."""
 
 import base64
 import hmac
@@ -15,15 +16,15 @@ HEAD = "id\tgame\tstart\tplay\tplayers\n"
 MOST_MATCHES, MOST_OF_ROW = 100_000, 1 << 17
 # The number of letters and digits of a random id that are computed from the key: 60 bits.
 SECRET_LETTERS = 12
-# The match, its game, its clocks, and the players.
+# A row of schedule.tsv: the match, its game, its clocks, and the players.
 ROW = re.compile(rb"([A-Za-z0-9_.-]{1,60})\t([A-Za-z0-9_.-]{1,40})\t([0-9]{1,5})\t([0-9]{1,5})\t([A-Za-z0-9_. -]+)\n?")
 
 
 @dataclass(frozen=True)
 class Match:
-    """A match: its id, its game, its clocks, its players' names in the order of the roles, and its round, if there are rounds. `again` is the match that
-    replaces it, with the reason, and `instead_of` the match that it replaces. `withdrawn` says which player has withdrawn, so that the match does not
-    count or is not played."""
+    """A match: its id, its game, its clocks, its players' names in the order of the roles, and its round, if there are rounds. If another
+    match replaces it, `again` is that match, and `reason` the reason; `instead_of` is the match that this one replaces. If the match does
+    not count or is not played because a player has withdrawn, `withdrawn` names the player."""
 
     id: str
     game: str
@@ -40,7 +41,7 @@ class Match:
         return not self.again and not self.withdrawn
 
     def why_not(self) -> str:
-        """Says why the match does not count. The text is empty if it counts."""
+        """Says why the match does not count. If it counts, the text is empty."""
         return self.withdrawn or self.again and f"{self.again} replaces it: {self.reason}"
 
     def line(self) -> str:
@@ -48,9 +49,9 @@ class Match:
 
 
 def circle_steps(count: int, roles: int, rounds: int) -> Iterator[tuple[int, ...]]:
-    """Yields for each block of matches the distance from the player of the first role to that of each role, in a circle of all players. A block has a
-    match for each place in the circle, so each player plays each role once. With two roles, each distance occurs once in a round. With more roles,
-    the distance is the one at which players have met least often."""
+    """Imagines the players in a circle, and yields for each block of matches the distances from the player of the first role to the players
+    of all roles. A block has one match for each place in the circle, so each player plays each role once. With two roles, each distance
+    occurs once in a round. With more roles, each distance is one at which players have met least often."""
     if roles == 1:
         yield from [(0,)] * rounds
         return
@@ -70,14 +71,14 @@ def circle_steps(count: int, roles: int, rounds: int) -> Iterator[tuple[int, ...
 
 
 def round_robin(players: Sequence[str], roles: int, rounds: int) -> Iterator[tuple[str, ...]]:
-    """Yields the players of each match: with two roles each pair in both orders, with one role each player."""
+    """Yields the players of each match. With two roles, each pair plays in both orders. With one role, each player plays alone."""
     for steps in circle_steps(len(players), roles, rounds):
         for first in range(len(players)):
             yield tuple(players[(first + step) % len(players)] for step in steps)
 
 
 def gauntlet(players: Sequence[str], one: str, roles: int, rounds: int) -> Iterator[tuple[str, ...]]:
-    """Yields the players of each match of one player against all others. It plays each role in turn."""
+    """Yields the players of each match between one player and all others. That player plays each role in turn."""
     if roles == 1:
         yield from round_robin(players, 1, rounds)
         return
@@ -107,7 +108,7 @@ def asked(competition: Competition, roles: Mapping[str, int]) -> list[tuple[str,
 
 
 def refuse_numbers(competition: Competition, roles: Mapping[str, int]) -> None:
-    """Refuses games and lines whose number of players does not fit the roles."""
+    """Refuses games, and lines of the schedule, whose number of players does not fit the roles."""
     form, count, mistakes = competition.form, len(competition.players), []
     for line in form.lines:
         name, *players = line.text.split()
@@ -132,8 +133,8 @@ def refuse_too_many(competition: Competition, count: int) -> None:
 
 
 def id_of(competition: Competition, number: int, width: int, key: bytes) -> str:
-    """Returns the id of the match with a number, counted from 1. The number has at least as many digits as those of the matches that were planned
-    first. An id with a key cannot be guessed without the key."""
+    """Returns the id of the match with a number, counted from 1. The number has at least as many digits as the numbers in the first plan.
+    If the id is computed with a key, it cannot be guessed without the key."""
     counted = f"{competition.name}-{number:0{max(3, width)}}"
     digest = base64.b32encode(hmac.digest(key, counted.encode("ascii"), "sha256")).decode("ascii").lower() if key else ""
     return f"{counted}-{digest[:SECRET_LETTERS]}" if key else counted
@@ -148,7 +149,7 @@ def matches_in(schedule: Iterable[bytes], competition: Competition) -> list[Matc
 
 
 def id_in(line: bytes) -> str | None:
-    """Returns the id of the match in a line of schedule.tsv, or None if it has none."""
+    """Returns the id of the match in a line of schedule.tsv, or None if the line has no id."""
     row = ROW.fullmatch(line)
     return row[1].decode("ascii") if row else None
 

@@ -18,7 +18,7 @@ if typing.TYPE_CHECKING:
     from ggp_tools.competition.live_site import LiveSite
 
 MOST_CONNECTIONS, MOST_DELAY = 4_096, 3_600
-# The maximum number of open files besides the connections.
+# The maximum number of open files that are not connections.
 OTHER_FILES = 64
 NAME = "[A-Za-z0-9]([A-Za-z0-9.-]{0,251}[A-Za-z0-9])?"
 ORIGIN = re.compile(f"(https?)://({NAME})(?::([0-9]{{1,5}}))?", re.IGNORECASE)
@@ -41,7 +41,7 @@ BASE = matching("(/[A-Za-z0-9_~-][A-Za-z0-9._~-]*)*", "a path that begins with /
 
 
 def origin(text: str) -> str:
-    """Returns an origin as browsers write it: in lower case, and without the usual port of its scheme."""
+    """Returns an origin in the form in which browsers write it: in lower case, and without the usual port of its scheme."""
     parts = ORIGIN.fullmatch(text)
     if not parts or not 1 <= int(parts[4] or 1) <= MOST_PORT:
         raise argparse.ArgumentTypeError(f"expected an origin, such as https://club.example, found {text!r}")
@@ -51,12 +51,12 @@ def origin(text: str) -> str:
 
 def add_serve(command: argparse.ArgumentParser) -> None:
     """Adds the options of `serve`."""
-    command.add_argument("--port", type=whole(0, MOST_PORT), default=8_000, metavar="P", help="the port to listen on (8000); 0 chooses a free one")
-    text = "the address to listen on (127.0.0.1, which only this computer can reach); 0.0.0.0 listens on all addresses"
+    command.add_argument("--port", type=whole(0, MOST_PORT), default=8_000, metavar="P", help="the port to listen on (default: 8000); 0 chooses a free port")
+    text = "the address to listen on (default: 127.0.0.1, which only this computer can reach); 0.0.0.0 listens on all addresses"
     command.add_argument("--bind", type=address, default="127.0.0.1", metavar="ADDRESS", help=text)
-    text = "accept at most N connections at the same time (256)"
+    text = "accept at most N connections at the same time (default: 256)"
     command.add_argument("--connections", type=whole(1, MOST_CONNECTIONS), default=256, metavar="N", help=text)
-    text = "delay everything that the pages show by this many seconds (0)"
+    text = "delay everything that the pages show by this many seconds (default: 0)"
     command.add_argument("--delay", type=whole(0, MOST_DELAY), default=0, metavar="SECONDS", help=text)
     text = "also answer requests for this host name, for example that of a proxy; can be given several times"
     command.add_argument("--host", type=HOST, action="append", default=[], metavar="NAME", help=text)
@@ -89,7 +89,7 @@ async def serve(site: "LiveSite", asked: argparse.Namespace) -> None:
     except ImportError as why:
         end_without(why)
     server, stopped = Server(site, asked.connections, asked.base_path, asked.host, asked.embed), asyncio.Event()
-    # A shell that starts this program in the background makes it ignore interrupts.
+    # Without these handlers, the program would ignore interrupts if a shell had started it in the background.
     for number in (signal.SIGINT, signal.SIGTERM):
         asyncio.get_running_loop().add_signal_handler(number, stopped.set)
     try:

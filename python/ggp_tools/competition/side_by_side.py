@@ -10,14 +10,14 @@ from collections.abc import Callable, Iterator, Sequence
 from ggp_tools.referee import Unchecked
 
 PROCESSORS = min(8, len(os.sched_getaffinity(0)))
-# If there are at least this many calls, several worker processes share them, and each takes this many at a time.
+# With at least this many calls, several worker processes share them. Each process takes this many calls at a time.
 MANY, CHUNK = 100, 16
-# In a worker process: the function and the arguments of each call, which it inherits.
+# A worker process inherits these: the function, and the arguments of each call.
 WORK: list[typing.Any] = []
 
 
 def begin(function: Callable[..., object], calls: Sequence[tuple]) -> None:
-    """Prepares a worker process. It ignores interrupts, because its parent handles them."""
+    """Prepares a worker process, which ignores interrupts, because its parent handles them."""
     signal.signal(signal.SIGINT, signal.SIG_IGN)
     WORK[:] = function, calls
 
@@ -28,8 +28,8 @@ def called(at: int) -> object:
 
 
 def made_side_by_side(function: Callable[..., object], calls: Sequence[tuple]) -> Iterator[typing.Any]:
-    """Yields what a function returns for each of these arguments, in order. Several processes share many calls, unless this process has other
-    threads, because then it cannot fork safely."""
+    """Yields what a function returns for each of these arguments, in order. If there are many calls, several processes share them, unless
+    this process has other threads, because then it cannot fork safely."""
     if len(calls) < MANY or PROCESSORS == 1 or threading.active_count() > 1:
         yield from itertools.starmap(function, calls)
         return

@@ -1,5 +1,5 @@
-"""Keeps track of the free players. Each player has a limited number of matches at the same time, and rests for a while after it was busy or
-silent."""
+"""Keeps track of the free players. Each player plays a limited number of matches at the same time. A player that was busy or silent is not
+asked again for a while."""
 
 import math
 import time
@@ -16,10 +16,10 @@ class Slots:
         self.free = {player.name: player.concurrent for player in competition.players}
         self.rests_until = dict.fromkeys(self.free, 0.0)
         self.failed = dict.fromkeys(self.free, 0)
-        # When the last failed try ended.
+        # For each player, when its last failed try ended.
         self.failed_at = dict.fromkeys(self.free, 0.0)
         self.tries, self.wait = competition.tries, competition.wait
-        # No match can begin before this time, unless a match ends.
+        # Unless a match ends, no match can begin before this time.
         self.idle_until = 0.0
 
     def has_free(self, match: Match, now: float) -> bool:
@@ -38,8 +38,9 @@ class Slots:
         self.failed[player] = 0
 
     def count_failure(self, player: str, taken_at: float) -> bool:
-        """Records that the player did not answer for a match that took its slots at this time. Returns whether to ask it again. After several
-        failed tries in a row it is not asked again. If it was asked for several matches at the same time, that counts as one try."""
+        """Records that a player did not answer for a match that took its slots at `taken_at`. Returns whether to ask the player again,
+        which ends after several failed tries in a row. If the player was asked for several matches at the same time, that counts as one
+        try."""
         if taken_at <= self.failed_at[player]:
             return self.failed[player] < self.tries
         self.idle_until = 0.0
@@ -50,8 +51,8 @@ class Slots:
         return not is_last
 
     def next_match(self, waiting: MutableSequence[Match], now: float) -> Match | None:
-        """Removes the first waiting match that can begin, takes its slots, and returns it. If no match can begin, the next search waits until a slot
-        is free again or a player has rested."""
+        """Finds the first waiting match that can begin, removes it from `waiting`, takes its slots, and returns it. If no match can begin,
+        the next search waits until a slot is free again or a player has rested."""
         if now < self.idle_until:
             return None
         if any(self.free[player] > 0 and self.rests_until[player] <= now for player in self.free):

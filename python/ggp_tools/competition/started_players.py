@@ -1,4 +1,4 @@
-"""Players that the competition starts and ends, on this computer or through launchers. Each has a port, limits and a log."""
+"""Manages the players that the competition starts and ends, on this computer or through launchers. Each has a port, limits and a log."""
 
 import asyncio
 import contextlib
@@ -23,26 +23,28 @@ from ggp_tools.reporting import Reporter
 HERE, NOWHERE = "127.0.0.1", "127.0.0.1:1"
 # A player must end within this many seconds.
 END_SECONDS = 15
-# The first pause between two INFO messages to a player that is starting. Each pause is twice as long as the previous one, up to a second.
+# The first pause between two INFO messages to a player that is starting. Each further pause is twice as long as the previous one, up to a
+# second.
 FIRST_PAUSE, LONGEST_PAUSE = 0.05, 1.0
-# A larger log is renamed, and replaces the one that was renamed before.
+# A log that is larger than this is renamed. It replaces the log that was renamed before.
 MOST_BYTES = 1 << 20
-# If this many bytes come at once, the next ones are read after a pause, so that a player cannot slow down matches. At most twice as many come at once.
+# If this many bytes come at once, the next bytes are read after a pause, so that no player slows down matches. At most twice as many bytes
+# come at once.
 CHUNK, CHUNK_PAUSE = 1 << 15, 0.02
 # If a player does not start, at most this many of its last lines are reported.
 LAST_LINES = 5
 
 
 class PlayerLog:
-    """The file NAME.log, which has the output of a player."""
+    """The file NAME.log, which contains the output of a player."""
 
     def __init__(self, path: pathlib.Path) -> None:
         self.path, self.size = path, path.stat().st_size if path.exists() else 0
-        # Where the output since the last start begins.
+        # The position at which the output since the last start begins.
         self.begin = self.size
 
     def mark(self, text: str) -> None:
-        """Writes a line between the output of an earlier start and that of the next one."""
+        """Writes a line that separates the output of an earlier start from the output of the next one."""
         if self.size:
             self.write(f"---- {moment()} {text}\n".encode())
         self.begin = self.size
@@ -53,18 +55,18 @@ class PlayerLog:
             await asyncio.sleep(CHUNK_PAUSE)
 
     def write(self, data: bytes) -> None:
-        """Appends output. Output that cannot be written is lost, because a full disk must not end the player."""
+        """Appends output. If the output cannot be written, it is lost, because a full disk must not end the player."""
         with contextlib.suppress(OSError):
             if self.size > MOST_BYTES:
                 os.replace(self.path, f"{self.path}.1")
                 self.begin = 0
-            # Only the owner can read the log, as with the directory of open matches.
+            # Only the owner can read the log, as is the case for the directory of open matches.
             with open(self.path, "ab", buffering=0) if self.path.exists() else new_file(self.path) as file:
                 file.write(data)
                 self.size = file.tell()
 
     def last_lines(self) -> list[str]:
-        """Returns the last lines since the last start, or none if the file is missing."""
+        """Returns the last lines since the last start. If the file is missing, returns none."""
         try:
             return message_lines(file_bytes(self.path)[self.begin :][-MOST_READ:])[-LAST_LINES:]
         except OSError:
@@ -80,7 +82,7 @@ class StartedPlayer:
         self.job, self.address, self.port, self.was_started, self.has_answered = None, NOWHERE, 0, False, False
         self.lock, self.matches, self.reported_lines = asyncio.Lock(), set(), []
         self.watching: asyncio.Task | None = None
-        # The reason why the player is not running and is not started again.
+        # The reason why the player is not running and will not be started again, if that is the case.
         self.over = ""
         # The addresses of other players that a launcher must not report, by name. One player at a time compares its address with them.
         self.known: Callable[[], dict[str, str]] = dict
@@ -93,7 +95,8 @@ class StartedPlayer:
         return self.job is not None and not self.job.running.done()
 
     async def ready(self, match: str) -> None:
-        """Starts the player for a match, unless it is running. If the player does not start, reports that; the player is silent in the match."""
+        """If the player is not running, starts it for a match. If it does not start, reports this, and the player is silent in the
+        match."""
         async with self.lock:
             if self.command.restart == EACH_MATCH:
                 await self.end()
@@ -122,7 +125,7 @@ class StartedPlayer:
         self.watching = asyncio.create_task(self.watch(self.job))
 
     def report_down(self, match: str, why: str) -> None:
-        """Reports that the player did not start, with the last lines of its log unless they were reported before."""
+        """Reports that the player did not start, with the last lines of its log, unless these lines were already reported."""
         last, before = self.log.last_lines(), self.reported_lines
         self.reported_lines = last
         path = self.log.path
@@ -132,7 +135,7 @@ class StartedPlayer:
             self.reporter.line(f"down {match} {self.name}: | {line}")
 
     async def came_up(self) -> str:
-        """Starts the process, and waits until it answers INFO. Returns the reason if it does not, or an empty text."""
+        """Starts the process, and waits until it answers INFO. If it does not, returns the reason, otherwise an empty text."""
         command, launcher = self.command, launcher_of(self.folder, self.name, self.command)
         job = self.job = Job(self.log.take, self.log.take, command.queue_seconds, END_SECONDS)
         job.start(launcher, {"words": [program_of(self.folder, self.command.words[0]), *command.words[1:]], "player": {
@@ -176,14 +179,14 @@ class StartedPlayer:
         return f"it reported the address of {names[0]}, {self.address}" if names else ""
 
     async def watch(self, job: Job) -> None:
-        """Waits until the player ends by itself. Reports the end for each match that it is playing, or once if there is none."""
+        """Waits until the player ends by itself. Reports this for each match that it is playing. If there is none, reports it once."""
         await asyncio.wait([job.running])
         words, last = self.with_restart(words_of_end(job)), "".join(f": {line}" for line in self.log.last_lines()[-1:])
         for match in [f"{match} " for match in sorted(self.matches)] or [""]:
             self.reporter.line(f"died {match}{self.name}: {words}{last}")
 
     def with_restart(self, why: str) -> str:
-        """Returns the reason why the player is not running. If the player is never restarted, this adds that to the reason."""
+        """Returns the reason why the player is not running. If the player is never restarted, the reason also says so."""
         if self.command.restart == NEVER:
             why = self.over = f"{why}, and it is not started again because of `restart = \"never\"`"
         return why
@@ -202,11 +205,11 @@ def words_of_end(job: Job) -> str:
 
 
 class StartedPlayers:
-    """The players of a competition that have a command. Each is started before its first match, and ended when `play` ends."""
+    """The players of a competition that have a command. Each player is started before its first match, and ended when `play` ends."""
 
     def __init__(self, folder: Folder, competition: Competition, referee: Referee, reporter: Reporter) -> None:
         self.competition = competition
-        # The addresses that were looked up for the other players. They are the same in all matches.
+        # The addresses that were looked up for the other players, and that stay the same in all matches.
         self.addresses: dict[str, str] = {}
         players = [player for player in competition.players if player.command]
         self.players = {player.name: StartedPlayer(folder, player, number, referee, reporter) for number, player in enumerate(players)}
@@ -245,7 +248,7 @@ class StartedPlayers:
 
 
 def program_of(folder: Folder, word: str) -> str:
-    """Returns a program. A path is relative to the directory of the competition, and a name is searched for in PATH."""
+    """Returns the path of a program. A path is relative to the directory of the competition. A name is searched for in PATH."""
     return str((folder.path / word).absolute()) if "/" in word else word
 
 
@@ -255,7 +258,8 @@ def launcher_of(folder: Folder, name: str, command: Command) -> list[str]:
 
 
 def mistakes_of_programs(folder: Folder, competition: Competition) -> Iterator[Mistake]:
-    """Yields a mistake for each player whose program, launcher or directory does not exist, or whose limits are above what this computer has."""
+    """Yields a mistake for each player whose program, launcher or directory does not exist, or whose limits exceed what this computer
+    has."""
     most, memory = len(os.sched_getaffinity(0)), os.sysconf("SC_PHYS_PAGES") * os.sysconf("SC_PAGE_SIZE")
     for player in competition.players:
         if not player.command:

@@ -1,4 +1,4 @@
-"""Starts `ggp_competition`. While the modules are loaded, Ctrl-C ends it silently."""
+"""Starts `ggp_competition`. If Ctrl-C is pressed while the modules are loaded, the command ends without a message."""
 
 import signal
 

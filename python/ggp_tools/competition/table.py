@@ -1,5 +1,5 @@
-"""The table of a competition: the results of each player in each game and in all of them, the crosstable, and the ratings. It follows from the
-records, as "The table" in docs/COMPETITION.md describes it."""
+"""Computes the table of a competition: the results of each player in each game and in all games, the crosstable, and the ratings. "The
+table" in docs/COMPETITION.md describes how the table follows from the records."""
 
 import itertools
 from collections import Counter
@@ -20,8 +20,8 @@ FINAL = "final"
 
 @dataclass(frozen=True)
 class Rating:
-    """A player's rating, half the length of its 95% interval, and the group in which ratings can be compared. A player without a group has no rating.
-    A group has no ratings if floating-point numbers are too imprecise to compute them from its results."""
+    """A player's rating, half the length of its 95% interval, and the group within which ratings can be compared. A player without a group
+    has no rating. A group has no ratings if they cannot be computed, because floating-point numbers are too imprecise for its results."""
 
     rating: float | None
     half: float | None
@@ -60,8 +60,8 @@ class Line:
         return self.won + self.drawn / 2 if self.round_points is None else self.round_points
 
     def order(self, by: str) -> tuple[float, ...]:
-        """Returns a key that orders lines: by points if the order is by points, then by the printed mean goal (0 without goals), by wins, and by
-        fewer losses. A knockout is ordered by rounds won; a Swiss competition by points and Buchholz score, or, if it has a final, first by the
+        """Returns a sort key for lines: points if the order is by points, then the printed mean goal (0 without goals), wins, and fewer
+        losses. A knockout is ordered by rounds won; a Swiss competition by points and Buchholz score, or, if it has a final, first by the
         rounds won in the final."""
         if by in (SWISS, FINAL):
             final = -1 if self.rounds_won is None else self.rounds_won
@@ -74,9 +74,9 @@ class Line:
 
 @dataclass
 class Table:
-    """The table of a game, or of all games: the lines by player and their order, and the matches that rematches replace. For each pair of players it
-    has the points of the first against the second, and how often they met. The table of all games also has the rounds, and remarks about withdrawn
-    players."""
+    """The table of a game, or of all games: the lines by player, the order of the lines, and the matches that rematches replace. For each
+    pair of players, it has the points of the first against the second, and the number of times that they met. The table of all games also
+    has the rounds, and remarks about withdrawn players."""
 
     game: str
     lines: dict[str, Line]
@@ -124,8 +124,8 @@ def count_player(line: Line, result: Result, role: int) -> None:
 
 
 def count_pairs(table: Table, result: Result) -> None:
-    """Counts that the two players of each pair in a match have met, unless both forfeited it. The higher goal wins, and equal goals are half a win
-    for each."""
+    """For the two players of each pair in a match, counts that they have met, unless both have forfeited. The higher goal wins. Equal goals
+    are half a win for each."""
     worths = result.worths() or ()
     for (player, worth), (other, beside) in itertools.permutations(zip(result.match.players, worths), 2):
         if worth != beside or worth >= 0:
@@ -155,7 +155,7 @@ def loaded_ratings() -> Callable[..., dict[str, Rating]]:
 
 
 def ratings_of(table: Table, anchor: Mapping[str, int], known: Known | None) -> dict[str, Rating]:
-    """Returns the ratings of the players of a table. If they are known, numpy need not be loaded, which takes long."""
+    """Returns the ratings of the players of a table. If the ratings are known, numpy, which takes long to load, is not loaded."""
     names = [line.player for line in table.lines.values() if line.matches]
     key = sum_of_parts(repr((names, sorted(table.points.items()), sorted(anchor.items()))).encode()) if known else ""
     ratings = known.get("ratings", key) if known else None
@@ -169,7 +169,7 @@ def ratings_of(table: Table, anchor: Mapping[str, int], known: Known | None) -> 
 def tables_of(
     competition: Competition, results: Sequence[Result], rounds: Sequence[Round] = (), is_rated: bool = True, known: Known | None = None
 ) -> list[Table]:
-    """Returns the tables: first that of all games, then that of each game."""
+    """Returns the tables: first the table of all games, then the table of each game."""
     names = [entrant.name for entrant in competition.players]
     kind = competition.form.kind if is_by_rounds(competition) else ""
     order, order_of_game = FINAL if competition.form.final else kind or competition.order, BY_POINTS if kind else competition.order

@@ -1,4 +1,4 @@
-"""The table of one or several competitions as text, as CSV and as JSON."""
+"""Formats the table of one or several competitions as text, as CSV and as JSON."""
 
 import csv
 import io
@@ -26,7 +26,7 @@ METHOD = (
 
 
 def forfeit_rule(competition: Competition) -> str:
-    """Explains how a player forfeits a match, and which goals count then. The text is empty if no player can forfeit a match."""
+    """Explains how a player forfeits a match, and which goals count then. If no player can forfeit a match, the text is empty."""
     most = competition.faults.replaced
     whys = ["it was retired"] * competition.forfeit + [f"{most:,} or more of its moves were replaced (forced moves do not count)"] * bool(most)
     counts = (
@@ -43,7 +43,7 @@ def method_of(competition: Competition) -> str:
 
 
 def in_order(plan: Plan, results: Mapping[str, Result]) -> list[Result]:
-    """Returns the results in the order of the schedule, each with its match as the schedule has it now."""
+    """Returns the results in the order of the schedule. Each has its match in the form that the schedule has now."""
     pairs = ((results[match.id], match) for match in plan.matches if match.id in results)
     return [result if result.match is match else replace(result, match=match) for result, match in pairs]
 
@@ -60,7 +60,7 @@ def rounded(number: float | None, places: int) -> float | None:
 
 
 def fields(line: Line) -> dict[str, object]:
-    """Returns the values of a line by the column heads of a file."""
+    """Returns the values of a line, by the heads of a file's columns."""
     values = {**vars(line), "goals": line.mean(), "points": line.points(), "rating": None, "half": None, "group": None}
     if line.rating:
         values |= {"rating": rounded(line.rating.rating, 1), "half": rounded(line.rating.half, 1), "group": line.rating.group}
@@ -68,7 +68,7 @@ def fields(line: Line) -> dict[str, object]:
 
 
 def crosstable(table: Table) -> list[dict[str, object]]:
-    """Returns how often the two players of each pair met, and the points of the first, by the column heads of a file."""
+    """Returns a row for each pair of players, by the column heads of a file: how often the two met, and the points of the first."""
     return [
         {"player": player, "opponent": opponent, "matches": met, "points": table.points[player, opponent]}
         for (player, opponent), met in sorted(table.met.items())
@@ -88,7 +88,7 @@ def rating_text(table: Table, line: Line) -> str:
 
 
 def columns(rows: Sequence[list[str]]) -> Iterator[str]:
-    """Formats rows as lines. The second column is aligned to the left, the others to the right."""
+    """Formats rows as lines. The second column is aligned to the left, and the others to the right."""
     widths = [max(map(len, column)) for column in zip(*rows)]
     for row in rows:
         cells = [cell.ljust(width) if at == 1 else cell.rjust(width) for at, (cell, width) in enumerate(zip(row, widths))]
@@ -96,7 +96,7 @@ def columns(rows: Sequence[list[str]]) -> Iterator[str]:
 
 
 def cells_of(table: Table, line: Line) -> dict[str, str]:
-    """Returns the cells of a line in the standings by the heads of the columns that the table has."""
+    """Returns the cells of a line of the standings, by the heads of the columns that the table has."""
     cells = {
         "player": f"{line.player} (no move of its own)" if 0 < line.absent == line.matches else line.player,
         "matches": str(line.matches),
@@ -117,15 +117,15 @@ def cells_of(table: Table, line: Line) -> dict[str, str]:
 
 
 def standings_rows(table: Table) -> Iterator[list[str]]:
-    """Yields the rows of the standings, the heads first."""
+    """Yields the rows of the standings. The first row has the heads."""
     yield ["", *cells_of(table, Line("nobody"))]
     for rank, line in zip(table.ranks(), table.standings()):
         yield [str(rank), *cells_of(table, line).values()]
 
 
 def crosstable_rows(table: Table) -> Iterator[list[str]]:
-    """Yields the rows of the crosstable, the heads first. A cell has the points, and after a slash the matches. The players have the order and the
-    numbers of the standings."""
+    """Yields the rows of the crosstable. The first row has the heads. A cell has the points, a slash, and the number of matches. The
+    players have the same order and numbers as in the standings."""
     order = [line.player for line in table.standings()]
     yield ["", "player", *map(str, range(1, len(order) + 1))]
     for number, player in enumerate(order, 1):
@@ -211,8 +211,8 @@ def table_files(plan: Plan, tables: list[Table]) -> dict[str, bytes]:
 
 
 def joined(plans: Sequence[Plan]) -> Plan:
-    """Returns a plan with the players, games and matches of several plans, for one table. Refuses two plans with the same name, and a game that does
-    not have the same rules in all of them. Each match counts under the rules of its competition, and rounds do not count."""
+    """Returns a plan with the players, games and matches of several plans, for one table. Refuses plans with the same name, and plans that
+    have different rules for the same game. Each match counts under the rules of its competition, and rounds do not count."""
     if len(plans) == 1:
         return plans[0]
     first, competitions, rules = plans[0].competition, [plan.competition for plan in plans], {}

@@ -7,7 +7,7 @@ from typing import BinaryIO, Generic, NamedTuple, TypeVar
 from ggp_tools.competition.files import opened_file
 from ggp_tools.match_log import LONGEST_LINE
 
-# At most this many bytes are read at a time, or one line or a part of a line that is too long, so that a long log does not delay the others.
+# So that a long log does not delay the others, one read takes at most this many bytes, unless a single line is longer.
 MOST_READ = 1 << 20
 # The first bytes show whether another file has replaced this one: in the log of a match, they include the time at which the match began.
 HEAD = 256
@@ -15,7 +15,8 @@ T = TypeVar("T")
 
 
 class Extent(NamedTuple):
-    """The size of a growing file. With a delay, also the number and the first bytes of the file, because another file may replace it."""
+    """The size of a growing file. With a delay, also the inode number and the first bytes of the file, because another file may replace
+    it."""
 
     size: int
     number: int = 0
@@ -23,30 +24,31 @@ class Extent(NamedTuple):
 
 
 def extent_of(file: BinaryIO) -> Extent:
-    """Returns the size, the number and the first bytes of a file that has just been opened."""
+    """Returns the size, the inode number and the first bytes of a file that has just been opened."""
     status = os.fstat(file.fileno())
     return Extent(status.st_size, status.st_ino, file.read(HEAD))
 
 
 class Tail(Generic[T]):
-    """The parsed lines of a growing file. Each read continues where the last one ended, or at the beginning if the file was replaced or cut. If the
-    file is gone, reads `later` instead, a file with the same lines."""
+    """The parsed lines of a growing file. Each read continues where the last one ended, or at the beginning if the file was replaced or
+    truncated. If the file no longer exists, its lines are read from the file `later`."""
 
     def __init__(self, path: str, parse: Callable[[bytes], T | None], later: str = "") -> None:
         self.path, self.parse, self.later = path, parse, later
         self.place, self.number, self.head = 0, None, b""
-        # Whether some lines of the extent are still unread, and whether only the beginning of a line has been read, because the line is too long.
+        # Whether some lines of the extent are still unread; and whether only the beginning of a line has been read, because the line is too
+        # long.
         self.is_behind = self.is_within = False
 
     def added(self, extent: Extent) -> tuple[list[T], bool]:
-        """Returns the new lines of this extent of the file, and whether it is a different file than before. There are no lines if the file can't be
-        read, or does not have the number and the first bytes of the extent."""
+        """Returns the new lines of this extent of the file, and whether it is a different file than before. If the file can't be read, or
+        does not have the inode number and the first bytes of the extent, there are no lines."""
         if self.later and not os.path.exists(self.path):
             self.path, self.later, self.number = self.later, "", None
         try:
             with opened_file(self.path) as file:
                 size, number, head = extent_of(file)
-                # The later file has another number.
+                # The file `later` has another inode number.
                 if self.later and extent.number not in (0, number) or not head.startswith(extent.head):
                     self.is_behind = True
                     return [], False

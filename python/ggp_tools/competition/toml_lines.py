@@ -1,4 +1,5 @@
-"""Reads TOML with the line of each value. Python's parser does not report lines, so they are found in the text that it has accepted."""
+"""Reads TOML with the line of each value. Python's parser does not report lines, so this module finds them in the text that the parser has
+accepted."""
 
 import itertools
 import re
@@ -8,7 +9,7 @@ from collections.abc import Iterator
 
 # The keys and indexes that lead to a value.
 Path = tuple[str | int, ...]
-# The tokens of a statement, each with its line, and with how many brackets and braces are open after it.
+# The tokens of a statement, each with its line and with the number of brackets and braces that are open after it.
 Statement = list[tuple[int, str, int]]
 # Multi-line and single-line strings, comments, punctuation, and everything between them.
 TOKEN = re.compile(
@@ -19,15 +20,15 @@ PLACE = re.compile(r" \(at line (\d+), column \d+\)")
 KEY = re.compile(r"\s*([A-Za-z0-9_-]+)")
 
 
-# The time that Python's parser takes for a dotted key grows with the square of the number of dots, so more dots are refused.
+# The time in which Python's parser reads a dotted key grows with the square of the number of dots, so more dots than this are refused.
 MOST_DOTS = 100
-# Each key, table and member of an array has one of these signs. Because each value takes memory, a file may have only this many signs, which suffice
-# for the longest schedule and the maximum number of players.
+# Each key, table and member of an array has one of these characters. Because each value takes memory, a file may have only this many of them. They
+# suffice for the longest schedule and the maximum number of players.
 SIGNS, MOST_SIGNS = frozenset("=,["), 150_000
 
 
 class TomlFault(Exception):
-    """The reason why a text is not TOML, with the line and, if there is one, the key at the beginning of the line."""
+    """The reason why a text is not TOML, with the line and, if a key begins this line, the key."""
 
     def __init__(self, line: int, key: str, words: str) -> None:
         super().__init__(words)
@@ -35,7 +36,7 @@ class TomlFault(Exception):
 
 
 def read_toml(text: str) -> tuple[dict, dict[Path, int]]:
-    """Returns the values of a text, and the lines of its tables, of the keys in them, and of the members of arrays."""
+    """Returns the values of a text. Also returns the lines of its tables, of the keys in them, and of the members of arrays."""
     if text.count(".") > MOST_DOTS or sum(map(text.count, SIGNS)) > MOST_SIGNS:
         refuse_too_many(text)
     try:
@@ -50,8 +51,8 @@ def read_toml(text: str) -> tuple[dict, dict[Path, int]]:
 
 
 def refuse_too_many(text: str) -> None:
-    """Refuses a text that has more dots between two punctuation marks than a key may have, or more signs than a file may have. Python's parser reads
-    no further than the first unfinished string."""
+    """Refuses a text that has more dots between two punctuation marks than a key may have, or more of the characters SIGNS than a file may have.
+    Python's parser reads no further than the first unfinished string."""
     line, dots, signs, end = 1, 0, 0, 0
     for token in TOKEN.finditer(text):
         if text[end : token.start()].strip():
@@ -60,7 +61,7 @@ def refuse_too_many(text: str) -> None:
         dots = 0 if word in PUNCTUATION else dots + word.count(".") * (word[0] not in "\"'#")
         signs += word in SIGNS
         if dots > MOST_DOTS or signs > MOST_SIGNS:
-            what = f"{MOST_DOTS} dots" if dots > MOST_DOTS else f"{MOST_SIGNS:,} signs `=`, `,` and `[`"
+            what = f"{MOST_DOTS} dots" if dots > MOST_DOTS else f"{MOST_SIGNS:,} characters `=`, `,` and `[`"
             raise TomlFault(line, "", f"there are more than {what} outside of texts and comments")
         line += word.count("\n")
 
@@ -90,7 +91,7 @@ def statements(text: str) -> Iterator[Statement]:
 
 
 def names_of(words: list[str]) -> Path:
-    """Returns the names in a dotted key, as Python's parser reads it."""
+    """Returns the names in a dotted key. Python's parser splits the key."""
     value, names = tomllib.loads(f"{''.join(words)} = 0"), ()
     while isinstance(value, dict):
         ((name, value),) = value.items()

@@ -15,7 +15,7 @@ from ggp_tools.descriptions.loading import Rules
 from ggp_tools.referee import Referee
 from ggp_tools.reporting import Reporter
 
-# Reports show this in place of the id of a match.
+# The word that replaces the id of a match in reports.
 NO_MATCH = "try"
 
 
@@ -31,7 +31,7 @@ def chosen(competition: Competition, path: pathlib.Path, name: str, game: str | 
 
 
 async def checked(started: StartedPlayer, referee: Referee, game: Game, rules: Rules) -> int:
-    """Starts a player, and returns the exit status of its check, or 1 if it does not start."""
+    """Starts a player, and returns the exit status of its check. If the player does not start, returns 1."""
     try:
         await started.ready(NO_MATCH)
         if not started.is_running():
@@ -57,7 +57,7 @@ def run_try(asked: argparse.Namespace, referee: Referee) -> int:
     player, game = chosen(competition, path, asked.player, asked.game)
     refuse_addresses(folder, replace(competition, players=(player,)))
     rules = loaded_games(folder, replace(competition, games=(game,)), referee)[game.name]
-    # Locking keeps `play` from starting the same player.
+    # The lock keeps `play` from starting the same player.
     with held(folder.path):
         folder.make(folder.players)
         started = StartedPlayer(folder, player, 0, referee, Reporter())

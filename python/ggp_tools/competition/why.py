@@ -19,7 +19,7 @@ from ggp_tools.printable import counted, message_of
 from ggp_tools.records.show import read_record
 
 TIMED = re.compile(rf"({MOMENT}) (.*)")
-# The beginnings of the journal's rows about a match and about its round. Players, games and matches may have the same names.
+# How the journal's rows about a match and about its round begin. Players, games and matches may have the same names.
 ROWS = (
     "(?:begin|end|no record|back|silent|info|abort|no answer to abort|lost|refused|aside|missing|start|restart|died|down) {match}[ :]"
     r"|stopped \S+, because {match} |round {round} of "
@@ -37,8 +37,8 @@ MARKS = {
 
 @dataclass
 class Entry:
-    """An event, with its time (empty if unknown) and its role (None if the event concerns all roles). The journal and the log may be from two
-    computers whose clocks differ."""
+    """An event with its time, which is empty if unknown, and its role, which is None if the event concerns all roles. The journal and the
+    log may come from two computers whose clocks differ."""
 
     time: str
     role: int | None
@@ -47,7 +47,7 @@ class Entry:
 
 
 def marked(entries: list[Entry]) -> list[Entry]:
-    """Returns the entries, with a remark where the clock was set back."""
+    """Returns the entries, and adds a remark to each one before which the clock was set back."""
     remarked, before = [], {}
     for entry in entries:
         if entry.time and entry.time < before.get(entry.is_note, ""):
@@ -59,21 +59,21 @@ def marked(entries: list[Entry]) -> list[Entry]:
 
 
 def parts_at(notes: list[Entry], beginning: str) -> list[list[Entry]]:
-    """Splits notes before each note whose text begins with `beginning`."""
+    """Splits a list of notes before each note whose text begins with `beginning`."""
     starts = [at for at, note in enumerate(notes) if note.text.startswith(beginning)]
     return [notes[start:end] for start, end in itertools.pairwise([0, *starts, len(notes)])]
 
 
 def merged(*parts: list[Entry]) -> list[Entry]:
-    """Returns entries of the log and of the journal in the order of their times, or one part after the other if a clock was set back or a time is
-    unknown."""
+    """Merges entries of the log and of the journal by their times. If a clock was set back or a time is unknown, returns one part after the
+    other instead."""
     is_known = all(entry.time for part in parts for entry in part) and all(marked(part) == part for part in parts)
     return sorted(itertools.chain(*parts), key=lambda entry: entry.time) if is_known else list(itertools.chain(*parts))
 
 
 def in_order(notes: list[Entry], runs: list[list[Entry]], match_id: str) -> list[Entry]:
-    """Merges the notes of the journal and the runs of the log. Both are about one role. A run comes between the notes about its beginning and its
-    end. Notes about the player are placed by their times. The log may lack the first runs."""
+    """Merges the notes of the journal and the runs of the log, which are about one role. A run comes between the notes about its beginning
+    and its end. Notes about the player are placed by their times. The first runs may be missing from the log."""
     before, *begun = parts_at(notes, f"begin {match_id} ")
     if not begun:
         return [*notes, *sum(runs, [])]
@@ -114,7 +114,7 @@ class Explanation:
         return players.index(player) if kind in OF_PLAYER and player in players else None
 
     def runs(self) -> list[list[Entry]]:
-        """Returns the messages of each run of the match from its log, which may still be growing."""
+        """Returns the messages of each run of the match. They come from the match's log, which may still be growing."""
         open_log = self.folder.room_log(self.match.id)
         file = open_log if not self.record and open_log.is_file() else self.folder.log(self.match.id)
         with opened_file(file) if file.is_file() else contextlib.nullcontext(io.BytesIO()) as log:
@@ -124,7 +124,7 @@ class Explanation:
         return [[self.entry_of(message, run is runs[-1]) for message in run] for run in runs]
 
     def entry_of(self, message: Message, counts: bool) -> Entry:
-        """Explains a message to a role and its answer. If the message is in the record, this also says what was played."""
+        """Explains a message to a role and its answer. If the message is in the record, also says which move was played."""
         head = f"turn {message.turn()}: {PLAY}" if message.kind == PLAY else str(message.kind)
         came = message_of(message.came())
         text = f"{head} brought {came} after {message.ms} ms" if message.error else f"{head} was answered `{came}` after {message.ms} ms"
@@ -138,13 +138,14 @@ class Explanation:
         return Entry(time, message.role, f"{text}. Message {message.number}: {message_of(message.message)}")
 
     def mark_of(self, message: Message) -> str | None:
-        """Returns the error that the record has for START or the last message. It is empty if there is no error, and None if there is no record."""
+        """Returns the error that the record has for START or for the last message. Without an error, the text is empty. Without a record,
+        returns None."""
         if not self.record or message.kind == PLAY or message.kind is None:
             return None
         return self.record["startMarks" if message.kind == START else "endMarks"][message.role]
 
     def mark_text(self, mark: str, kind: str) -> str:
-        """Explains an error of a record."""
+        """Explains an error in a record."""
         seconds = self.match.start if kind == START else self.match.play
         return f"{mark}: {MARKS[mark].format(seconds=seconds)}" if mark in MARKS else f"{mark}: not a legal move of its role in that state"
 
@@ -161,7 +162,7 @@ class Explanation:
         return f"; {moves}" if moves else ""
 
     def turn_text(self, role: int, turn: int, answer: str) -> str:
-        """Says what was played for a role in a turn, and why."""
+        """Says which move was played for a role in a turn, and why."""
         if turn >= len(self.record["moves"]):
             return "the match was given up before that turn was played"
         move, error = self.record["moves"][turn][role], self.record["errors"][turn][role]
@@ -187,7 +188,7 @@ class Explanation:
         return [*retired, f"{goal}; {replaced} of {len(errors)} moves replaced", *forfeit]
 
     def lines(self, players: list[str]) -> Iterator[str]:
-        """Yields everything that is known about what these players did in the match."""
+        """Yields the lines of the explanation: everything that is known about what these players did in the match."""
         match = self.match
         who = ", ".join(f"{player} is {role}" for player, role in zip(match.players, self.roles))
         strikes, most = self.plan.competition.strikes, self.plan.competition.faults.replaced
@@ -198,7 +199,7 @@ class Explanation:
         for player in players:
             role = match.players.index(player)
             yield from ("", f"{player}, {self.roles[role]}:")
-            # Only the rows of one role are in the order of their times, because the players of a turn answer in any order.
+            # The rows of several roles are not in the order of their times, because the players of a turn answer in any order.
             of_role, *of_runs = ([entry for entry in entries if entry.role in (None, role)] for entries in (notes, *runs))
             yield from (f"{entry.time or '(no time)'} {entry.text}" for entry in marked(in_order(of_role, of_runs, match.id)))
             yield from self.outcome(role)

@@ -1,4 +1,4 @@
-"""Reports the goals of a role in a state, and the sentences that derive them."""
+"""Reports the goal values of a role in a state, and the sentences that derive them."""
 
 from collections.abc import Sequence
 
@@ -10,8 +10,8 @@ MOST_NAMED = 3
 
 
 def goals_said(text: str, role: str, terms: Sequence[str]) -> str:
-    """Describes the goals of a role in a state, and the sentences that derive each goal. The text is empty if the description cannot be
-    interpreted."""
+    """Describes the goal values of a role in a state, and the sentences that derive each value. If the description cannot be interpreted,
+    the text is empty."""
     try:
         game = Game(text)
         state, name = frozenset(map(term_of, terms)), term_of(role)
@@ -21,11 +21,11 @@ def goals_said(text: str, role: str, terms: Sequence[str]) -> str:
     except (Refused, RecursionError):
         return ""
     if len(goals) > 1:
-        return f"{quoted(role)} has {len(goals):,} goals there: {'; '.join(goals[:MOST_NAMED])}"
+        return f"{quoted(role)} has {len(goals):,} goal values in this state: {'; '.join(goals[:MOST_NAMED])}"
     if goals:
-        return f"{quoted(role)} has the goal {goals[0]}"
+        return f"{quoted(role)} has the goal value {goals[0]}"
     numbers = list(game.by_sentence(GOAL))
-    return f"no sentence gives {quoted(role)} a goal there; {f'the sentences about goals are {named(game, numbers)}' if numbers else 'no sentence is about goals'}"
+    return f"no sentence gives {quoted(role)} a goal value in this state; {f'the sentences about goals are {named(game, numbers)}' if numbers else 'no sentence is about goals'}"
 
 
 def past(value: object) -> str:
@@ -33,6 +33,6 @@ def past(value: object) -> str:
 
 
 def named(game: Game, numbers: Sequence[int]) -> str:
-    """Cites some sentences with their lines."""
+    """Cites some sentences with their lines in the text."""
     more = f" and {len(numbers) - MOST_NAMED:,} more" if len(numbers) > MOST_NAMED else ""
     return " and ".join(game.cited(number) for number in numbers[:MOST_NAMED]) + more

@@ -1,5 +1,5 @@
-"""The files of the cache directory, and the cache of the results of grounding. The key of a result is a checksum of everything that it depends on:
-the description, the code, the grounder and the options."""
+"""Manages the files of the cache directory, and caches the results of grounding. The key of a result is a checksum of everything that it
+depends on: the description, the code, the grounder and the options."""
 
 import contextlib
 import hashlib
@@ -22,13 +22,13 @@ def cache() -> pathlib.Path:
 
 
 def sealed(name: str, data: bytes) -> bytes:
-    """Returns the contents of a cached file with a checksum over the contents and the name, so that the file is invalid under another name."""
+    """Returns the contents of a cached file, with a checksum of the contents and the name. So the file is invalid under another name."""
     return hashlib.sha256(f"{name}\n".encode() + data).hexdigest().encode() + b"\n" + data
 
 
 def cached(kind: str, name: str) -> bytes | None:
-    """Returns what `store` has stored under this name, or None if the file has changed since then, or if another user may have written or placed
-    it."""
+    """Returns what `store` has stored under this name. Returns None if the file has changed since, or if another user may have written it
+    or put it there."""
     path = cache() / kind / name
     try:
         with opened_file(path, os.O_NOFOLLOW) as file:
@@ -54,15 +54,15 @@ def store(kind: str, name: str, data: bytes, most: int) -> None:
 
 
 def sources() -> list[pathlib.Path]:
-    """Returns the files of the code that a result depends on."""
+    """Returns the files of the code on which a result depends."""
     shared = (HERE.parent / name for name in ("gdl.py", "kif.py", "printable.py"))
     return sorted([*(HERE.parent / "instantiating").glob("*.py"), *shared])
 
 
 def sum_of_work(text: bytes, options: list[str]) -> str:
-    """Returns the checksum of everything that a result depends on, which excludes the time limit."""
+    """Returns a checksum of everything on which a result depends. The time limit is not included."""
     checksum = hashlib.sha256()
-    # The size and the time of its file identify the grounder, because getting its version would mean running it.
+    # The size and the time of the grounder's file identify the grounder, because asking for its version would mean running it.
     path = shutil.which("gringo")
     grounder = f"{path} {os.stat(path).st_size} {os.stat(path).st_mtime_ns}".encode() if path else b""
     for part in (text, grounder, *(file.read_bytes() for file in sources()), *(option.encode() for option in options)):

@@ -22,17 +22,17 @@ from ggp_tools.referee import BadRules, Referee
 FOLDER = pathlib.Path(__file__).resolve().parents[2]
 # The maximum lengths of a description, and of the text for players.
 MOST_BYTES, MOST_BYTES_FOR_PLAYERS = LARGE["bytes"], 1 << 20
-# The command and the file that precede the place of a sentence in a message.
+# The name of the command and of the file, which precede the place of a sentence in a message.
 PLACED = re.compile(r"ggp-instantiate: .*?: (?=line [0-9]+, column [0-9]+: )")
 STOPPED = re.compile(r"ggp-instantiate: stopped after ")
 
 
 class NoDescription(Exception):
-    """Why a text is not a description, in lines, with the place if it is known."""
+    """The reason why a text is not a description, in lines. If the place of the error is known, the reason includes it."""
 
 
 class Stopped(NoDescription):
-    """The time limit was reached before anything was known about a description."""
+    """The time limit was reached before the description was found to be valid or invalid."""
 
 
 @dataclass(frozen=True)
@@ -66,7 +66,7 @@ def sentence_starts(text: bytes) -> list[int]:
 
 
 def look_at_sentences(text: bytes) -> None:
-    """Checks sentences as `ggp-instantiate` does before it grounds them."""
+    """Checks sentences in the same way as `ggp-instantiate` before it grounds them."""
     description = text.decode("latin-1")
     try:
         Relations(all_rules(kif.expressions(description))).refuse_dependence()
@@ -84,8 +84,8 @@ def run_module(name: str, *words: str, data: bytes | None = None) -> subprocess.
 
 
 def why_not(made: subprocess.CompletedProcess) -> str:
-    """Returns why a run of `ggp-instantiate` failed: the last line that it printed. If a limit was exceeded, the sentences that cost the most come
-    first."""
+    """Returns why a run of `ggp-instantiate` failed: the last line that it printed. If a limit was exceeded, the lines with the most
+    expensive sentences come before it."""
     lines = made.stderr.decode(errors="replace").strip().splitlines() or [f"ggp-instantiate ended with status {made.returncode}"]
     return "\n".join([*(line.strip() for line in lines[:-1] if line.startswith("  largest: ")), PLACED.sub("", lines[-1])])
 
@@ -99,7 +99,7 @@ def instantiated(path: pathlib.Path, text: bytes, tells_variables: bool, seconds
     with tempfile.TemporaryDirectory() as directory:
         player_rules = pathlib.Path(directory) / "player_rules"
         words = [f"--seconds={seconds}", *large, *(["--player-rules", str(player_rules)] if tells_variables else [])]
-        # A name that begins with a hyphen would be an option.
+        # A path that begins with a hyphen would be parsed as an option.
         run = run_module("instantiating.command", *words, os.path.abspath(path))
         if run.returncode:
             raise (Stopped if STOPPED.match(why_not(run).splitlines()[-1]) else NoDescription)(why_not(run))
@@ -117,8 +117,8 @@ def rules_of(
     text: bytes, name: pathlib.Path | str, referee: Referee, player_rules: bytes | None = None, description_sum: str | None = None,
     notes: tuple[str, ...] = (),
 ) -> Rules:
-    """Returns the rules of a ground description, with the roles that the referee reads in it. If the description exceeds the usual limits, the large
-    ones apply. If the referee refuses the rules, raises an error with its message."""
+    """Returns the rules of a ground description, with the roles that the referee finds in it. If the description exceeds the usual limits,
+    the large limits apply. If the referee refuses the rules, raises an error with the referee's message."""
     large = referee.taking(True)
     programs = [large] if referee.is_large or LARGE_NOTE in notes_of(text) else [referee, large]
     for program in programs:
@@ -160,7 +160,8 @@ def load_description(path: pathlib.Path, referee: Referee, tells_variables: bool
 
 
 def load_described(path: pathlib.Path, described: pathlib.Path, referee: Referee, tells_variables: bool) -> Rules:
-    """Returns the rules of a ground file. The text for players is made from the matching description with variables."""
+    """Returns the rules of a ground file. The text for players is made from `described`, the description of the same game with
+    variables."""
     ground = read_text(path)
     if has_variables(ground):
         raise NoDescription("it has variables, so it needs no other description")

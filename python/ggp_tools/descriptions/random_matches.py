@@ -18,9 +18,9 @@ from ggp_tools.records.record import is_list, is_text, list_of
 from ggp_tools.referee import Referee, read_objects, rules_file, unchecked
 from ggp_tools.reporting import REDRAWN, Reporter
 
-# The most bytes of a script and the most matches in one run of `desk`, whose limits are higher.
+# The maximum bytes of a script, and the maximum number of matches, for one run of `desk`. The limits of `desk` itself are higher.
 MOST_BYTES, MOST_MATCHES = 1_000_000, 1_000
-# The bytes of a script that are reserved for lines that do not belong to a turn.
+# The bytes of a script that are reserved for rows that do not belong to a turn.
 BESIDE_TURNS = 10_000
 
 
@@ -29,18 +29,18 @@ def sum_of(texts: list[str]) -> bytes:
 
 
 def sum_of_state(state: State | bytes) -> bytes:
-    """Returns the checksum of a state, which may be given as a checksum."""
+    """Returns the checksum of a state. If the state is already a checksum, returns it."""
     return state if isinstance(state, bytes) else sum_of(texts_of(state))
 
 
 class Played(Match):
-    """A match that keeps its last state, and only checksums of the earlier ones. Its record has checksums instead of states."""
+    """A match that stores its last state, but only checksums of the earlier ones. Its record has checksums instead of states."""
 
     recorded = staticmethod(sum_of_state)
 
     def __init__(self, game: Game, name: str, players: list[str]) -> None:
         super().__init__(game, name, 1, 1, players)
-        # The bytes that are left in a script; the number of turns that fit into the script, and the state after them.
+        # How many bytes are left in a script; how many turns fit into the script; and the state after these turns.
         self.room, self.held = MOST_BYTES - BESIDE_TURNS, (0, self.states[0])
 
     def turn(self, judged: list[tuple]) -> None:
@@ -59,8 +59,8 @@ class Played(Match):
 
 @dataclass
 class Ended:
-    """A finished match: its seed, number of turns and goals, and the maximum number of legal moves of each role. An aborted match also has its cause
-    with the role's name, and its last state if it is the first match with this cause."""
+    """A finished match: its seed, its number of turns, its goals, and the maximum number of legal moves of each role. For an aborted match,
+    `cause` is the cause with the role's name; the first match with each cause also has its last state."""
 
     seed: int
     turns: int
@@ -87,13 +87,13 @@ class RandomMatches:
         sys.setrecursionlimit(MOST_CALLS)
 
     def run(self, seed: int, count: int) -> None:
-        """Plays this many matches, with consecutive seeds that begin with this one. Reports problems in notes."""
+        """Plays this many matches. Their seeds are consecutive numbers that begin with this one. Reports problems as notes."""
         try:
             for number in range(count):
                 self.play(seed + number, f"match {number + 1} of {count}")
         except TimeIsOver:
             ended = f"{len(self.ended):,} of {count:,} matches and {counted(self.turns, 'turn')} of the next one"
-            self.notes.append(f"out of time: in {self.seconds:,} s there were {ended}")
+            self.notes.append(f"out of time: {ended} were played in {self.seconds:,} s")
         except RecursionError:
             self.is_too_deep = True
             self.notes.append("the interpreter cannot play it: its rules are nested too deeply")
@@ -128,7 +128,7 @@ class RandomMatches:
 
     def hand_in(self, seed: int, match: Played, record: dict) -> None:
         if any(is_too_long(move) for moves in match.moves for move in moves):
-            # The desk does not accept such a long answer.
+            # The desk does not accept an answer of this length.
             self.too_long += 1
             return
         lines = list(lines_of(match))

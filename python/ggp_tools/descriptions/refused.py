@@ -25,13 +25,13 @@ class Sentences:
 
 
 def roles_named_again(sentences: list[Expression]) -> list[list[int]]:
-    """Returns the sentences that name a role, for each role that is named more than once."""
+    """For each role that is named more than once, returns the sentences that name it."""
     naming = (number for number, sentence in enumerate(sentences) if sentence[:1] == ("role",))
     return [numbers for numbers in grouped(naming, sentences.__getitem__).values() if len(numbers) > 1]
 
 
 def cycles(rules: list[Rule]) -> Iterator[list[int]]:
-    """Yields the sentences of each cycle of dependences."""
+    """Yields the sentences of each cycle of dependencies."""
     for circle in circles(rules):
         atoms = set(circle)
         yield sorted({rule.sentence for rule in rules if rule.head in atoms and not atoms.isdisjoint(asked(rule))})

@@ -1,5 +1,5 @@
-"""Finds sentences in a description that the referee accepts but that are suspicious. A sentence that may be correct is not reported. A sentence with
-variables whose instances are unknown counts as correct."""
+"""Finds sentences that the referee accepts but that are suspicious. A sentence that may be correct is not reported. If a sentence has
+variables, and its instances are unknown, it counts as correct."""
 
 import difflib
 import itertools
@@ -18,15 +18,15 @@ from ggp_tools.kif import (
 from ggp_tools.printable import counted, shown
 from ggp_tools.referee import MOST_OF_MOVE
 
-# The relations that no rule needs to use, and those whose first argument is a role.
+# The relations that no rule needs to use, and the relations whose first argument is a role.
 OWN = {*((name, ARITIES[name]) for name in GAME), ("base", 1), ("input", 2)}
 OF_ROLES = {("legal", 2), ("does", 2), ("goal", 2)}
 # The relations that are checked in the ground rules.
 KNOWN = {("role", 1), ("legal", 2), ("goal", 2), ("terminal", None)}
-# The keywords of GDL with the numbers of their arguments: None for an atom, "any" for any number.
+# The keywords of GDL, each with its number of arguments: None for an atom, "any" if any number is allowed.
 HEADS = {**{name: ARITIES[name] for name in GAME}, "base": 1, "input": 2, "<=": "any"}
 CONDITIONS = {"role": 1, "true": 1, "does": 2, "legal": 2, "goal": 2, "terminal": None, "not": 1, "distinct": 2, "or": "any"}
-# Other words that authors use for these keywords, apart from misspellings.
+# Words that authors often write instead of these keywords, apart from misspellings.
 OFTEN = {
     "<=": "=> <- -> :- <== ==> =< >= <=> < = if".split(),
     "init": "initial initially start".split(),
@@ -38,7 +38,8 @@ OFTEN = {
     "not": "~ ! no".split(),
     "or": "| ||".split(),
 }
-# The similarity of two words, the maximum lengths of a sentence and of the list, and the maximum number of names to compare.
+# The least similarity of two words that count as alike, the maximum lengths of a quoted sentence and of the list of lines, and the maximum
+# number of names to compare.
 ALIKE, MOST_SHOWN, MOST_LINES, MOST_COMPARED = 0.75, 80, 100, 20_000
 MOST_LISTED = 3
 TOO_LONG = f"no player can make this move: its text is longer than {MOST_OF_MOVE:,} bytes"
@@ -48,7 +49,7 @@ NOT_ALL = "the rest was not checked"
 
 
 class TimeIsOver(Exception):
-    """The time is up."""
+    """The time limit of the search has been reached."""
 
 
 class Part(NamedTuple):
@@ -99,14 +100,14 @@ def places(atom: Expression, way: Way = ()) -> Iterator[tuple[Way, object]]:
 
 
 def without_names(term: Expression) -> Expression:
-    """Replaces all variables of a term with the same one."""
+    """Replaces all variables of a term with the same variable."""
     if isinstance(term, str):
         return "?" if term.startswith("?") else term
     return tuple(map(without_names, term))
 
 
 class Index:
-    """Atomic sentences by the values at their paths."""
+    """Indexes atomic sentences by the values at their paths."""
 
     def __init__(self, atoms: Iterable[Expression]) -> None:
         self.table = {}
@@ -115,8 +116,8 @@ class Index:
                 self.table.setdefault(place, []).append(atom)
 
     def alike(self, atom: Expression) -> Iterable[Expression]:
-        """Returns candidates that agree with an atom at one path: the path with the fewest candidates."""
-        # An atom with a variable at a path, or above the path, may have any value there.
+        """Returns candidates that may equal an atom: those that agree with it at one path, the one with the fewest candidates."""
+        # If a sentence has a variable at the path or above it, any value may be there.
         groups = (
             [self.table.get((way[:length], None), ()) for length in range(len(way) + 1)] + [self.table.get((way, word), ())]
             for way, word in places(atom) if word is not None
@@ -125,7 +126,7 @@ class Index:
 
 
 class Atoms:
-    """Atomic sentences by their relations."""
+    """Groups atomic sentences by their relations."""
 
     def __init__(self, atoms: Iterable[Expression]) -> None:
         self.plain, self.open = {}, {}
@@ -177,7 +178,7 @@ class Description:
                 must_be_literal(literal)
             must_be_atomic(part.atom, True)
         except Refused as why:
-            # A ground description may have these, but without their meaning in GDL-II.
+            # A ground description may use these, but they do not have their meaning of GDL-II.
             if SECRET not in str(why):
                 self.is_well_formed = False
                 return
@@ -187,11 +188,11 @@ class Description:
         self.asks.setdefault(relation(part.atom), set()).update(relation(part.atom) for part in asked)
 
     def needed(self) -> set[Relation]:
-        """Returns the relations of the game, and those that they depend on."""
+        """Returns the relations that define the game, and the relations on which these depend."""
         return OWN | reached(self.asks, OWN)
 
     def told_places(self, parts: list[Part]) -> dict[tuple[int, Way], str]:
-        """Returns the line and column of each part, by sentence and path."""
+        """Returns the line and the column of each part, by sentence and path."""
         places_found = {}
         for number, of_sentence in grouped(parts, itemgetter(0)).items():
             for way, at in member_starts(self.text, self.starts[number], {part.way for part in of_sentence}).items():
@@ -200,7 +201,7 @@ class Description:
 
 
 def member_starts(text: str, at: int, ways: set[tuple]) -> dict[tuple, int]:
-    """Returns where the members at these paths of a sentence begin."""
+    """Returns the indices at which the members at these paths of a sentence begin."""
     indices, way = {}, []
     for token in TOKEN.finditer(text, at):
         if token[0] == ")":
@@ -217,7 +218,8 @@ def member_starts(text: str, at: int, ways: set[tuple]) -> dict[tuple, int]:
 
 
 def meant(atom: Expression, words: dict[str, int | str | None], names: Sequence[str] = ()) -> str | None:
-    """Returns the GDL keyword or the name that the author of a relation probably meant, judging by spelling and number of arguments, or None."""
+    """Returns the GDL keyword or the name that an author probably meant by this relation, according to its spelling and its number of
+    arguments. Returns None if there is no such word."""
     name, count = relation(atom)
     if len(name) > MOST_SHOWN:
         return None
@@ -235,12 +237,12 @@ def shown_form(name: str, count: int | None) -> str:
 
 
 def listed(name: str, counts: Sequence[int | None]) -> str:
-    """Returns the forms of a relation with these numbers of arguments, but only the first few if there are many."""
+    """Returns the forms of a relation with these numbers of arguments. If there are many, returns only the first few."""
     return " and ".join([f"`{shown_form(name, count)}`" for count in counts[:MOST_LISTED]] + ["others"] * (len(counts) > MOST_LISTED))
 
 
 def is_too_long(move: Expression) -> bool:
-    """Returns whether a move is so long that the desk would not accept it as an answer, so that no player can make it."""
+    """Returns whether a move is longer than any answer that the desk accepts, so that no player can make the move."""
     return len(spelled(move)) > MOST_OF_MOVE
 
 
@@ -267,7 +269,8 @@ class Search:
             self.known, self.facts = Atoms(heads), {sentence for sentence in sentences if sentence[:1] != ("<=",)}
 
     def findings(self) -> Iterator[Finding]:
-        """Yields the findings. If a sentence is malformed, only misspelt heads are reported, because others may depend on it."""
+        """Yields the findings. If a sentence is malformed, only misspelt heads are reported, because other findings may depend on this
+        sentence."""
         for part, why in self.description.secrets.items():
             yield Finding(part, why, ("secret", relation(part.atom)))
         for part in self.description.heads:
@@ -299,7 +302,7 @@ class Search:
         key = relation(part.atom)
         word = meant(part.atom, HEADS)
         if word:
-            words = f"`{key[0]}` is not a GDL keyword, and the game does not use it; is `{word}` meant?"
+            words = f"`{key[0]}` is not a GDL keyword, and the game does not use it; did you mean `{word}`?"
             return Finding(part, words, ("misspelt", key[0]))
         words, others = f"the game does not use `{shown_form(*key)}`", self.needed_counts.get(key[0])
         return Finding(part, words + (f", only for {listed(key[0], others)}" if others else ""), ("unused", key))
@@ -345,18 +348,19 @@ class Search:
         if counts:
             words += f", only {listed(name, counts)}"
         elif word := meant(part.atom, CONDITIONS, self.names_like(count)):
-            words += f"; is `{word}` meant?"
+            words += f"; did you mean `{word}`?"
         return Finding(part, words, ("undefined", key))
 
     def names_like(self, count: int | None) -> list[str]:
-        """Returns the names of relations with this number of arguments. After too many comparisons, which are slow, the list is empty."""
+        """Returns the names of the relations with this number of arguments. Comparing names is slow, so the list is empty after too many
+        comparisons."""
         names = [name for number in ((count,) if count else (None, 0)) for name, _ in self.names.get(number, ())]
         self.compared += len(names)
         return names if self.compared <= MOST_COMPARED else []
 
     def of_instances(self) -> Iterator[Finding]:
-        """Yields the instances with a move that is too long, and the facts about names that are not roles. Other instances may never hold, so they
-        are not reported."""
+        """Yields findings for instances whose move is too long, and for facts about names that are not roles. Other instances are not
+        reported, because they may never hold."""
         for name in ("legal", "goal"):
             for atom in self.known.plain.get((name, 2), ()):
                 self.look_at_clock()
@@ -367,14 +371,14 @@ class Search:
                     yield from self.of_instance(atom, words, ("role", atom[1]))
 
     def of_instance(self, atom: Expression, words: str, kind: tuple) -> Iterator[Finding]:
-        """Yields the finding for an instance. If only one head can have this instance, the finding has the place of that head."""
+        """Yields the finding for an instance. If only one head can have this instance, the finding has that head's place."""
         parts = [] if atom in self.parts else [part for head in self.heads.like(atom) for part in self.parts[head]]
         if parts:
             is_sure = len(parts) == 1
             yield Finding(parts[0]._replace(atom=atom) if is_sure else None, words if is_sure else f"{words}: {quoted(atom, MOST_SHOWN)}", kind)
 
     def of_roles(self) -> Iterator[Finding]:
-        """Yields a finding for each role without legal moves or goals, and one if no match can end."""
+        """Yields a finding for each role without legal moves or goals, and a finding if no match can end."""
         for atom in self.known.plain.get(("role", 1), ()):
             self.look_at_clock()
             for name in ("legal", "goal"):
@@ -386,7 +390,7 @@ class Search:
 
 
 class Suspicions(NamedTuple):
-    """The suspicious sentences, in lines, and the reason why the check is incomplete, which is empty if it is complete."""
+    """The suspicious sentences, in lines, and the reason why the check is incomplete. If the check is complete, the reason is empty."""
 
     lines: list
     cut: str
@@ -409,7 +413,7 @@ def suspicions(text: bytes, ground: bytes | None = None, seconds: float | None =
 
 
 def lines_of(description: Description, found: list[Finding]) -> list[str]:
-    """Returns the lines for findings, one for each kind, with the place of the first finding of the kind."""
+    """Returns a line for each kind of finding, with the place of the first finding of this kind."""
     counts, firsts = Counter(finding.kind for finding in found), {}
     for finding in sorted(found, key=lambda finding: finding.part[:2] if finding.part else (len(description.starts), ())):
         firsts.setdefault(finding.kind, finding)

@@ -23,7 +23,7 @@ least one could not be checked, because it took too long or the description is n
 SECONDS = 60.0
 # The interpreter evaluates nested rules with nested calls.
 MOST_CALLS = 100_000
-# The limit of memory, the same as for the grounder of `ggp-instantiate`.
+# The limit of memory. It is the same as for the grounder of `ggp-instantiate`.
 MEMORY = 2 << 30
 SAME, DIFFERENT, NOT_FOLLOWED = 0, 1, 3
 
@@ -38,8 +38,8 @@ def arguments() -> argparse.Namespace:
 
 
 class Holding:
-    """Checks records against one description. `following` is None until the description is parsed. All records share its caches. After an interrupted
-    check these may be incomplete, so they are dropped."""
+    """Checks records against one description. `following` is None until the description has been parsed. All records share its caches. An
+    interrupted check may leave the caches incomplete, so they are dropped."""
 
     def __init__(self, text: str, name: str = "the description") -> None:
         self.text, self.name, self.following = text, name, None
@@ -68,7 +68,7 @@ class Holding:
         return SAME, f"the same: {counted(turns, 'turn')}"
 
     def game(self) -> Game:
-        """Parses the game. If the description is invalid, raises an error with the place."""
+        """Parses the game. If the description is invalid, the error includes the place."""
         try:
             return Game(self.text)
         except Refused as why:
@@ -84,7 +84,7 @@ def place_of(why: BaseException) -> str:
 
 
 def hold(holding: Holding, lines: Iterable[str], limit: float) -> Iterator[tuple[int, str]]:
-    """Yields an exit status and a message for each record, each within the time limit."""
+    """Yields an exit status and a message for each record. The time limit applies to each record separately."""
     for line in lines:
         try:
             with limited(limit):
@@ -94,11 +94,11 @@ def hold(holding: Holding, lines: Iterable[str], limit: float) -> Iterator[tuple
         yield result
 
 
-def limit_memory() -> None:
+def limit_memory(kind: int = resource.RLIMIT_AS) -> None:
     """Limits the memory of this process, unless there is already a lower limit."""
-    soft, hard = resource.getrlimit(resource.RLIMIT_AS)
+    soft, hard = resource.getrlimit(kind)
     most = min([MEMORY, *(limit for limit in (soft, hard) if limit != resource.RLIM_INFINITY)])
-    resource.setrlimit(resource.RLIMIT_AS, (most, hard))
+    resource.setrlimit(kind, (most, hard))
 
 
 def records_in(files: Iterable[str]) -> Iterator[bytes]:

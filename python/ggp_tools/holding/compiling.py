@@ -1,7 +1,8 @@
-"""Compiles rules to Python functions. Each relation has one function for each set of arguments that a query gives.
+"""Compiles rules to Python functions. For each relation, and each set of arguments that a query gives, there is one function.
 
-If a query gives all arguments, the function returns whether the sentence is true. Otherwise it returns the missing arguments of all answers, without
-duplicates. Results are cached for each position. Relations that depend on themselves are derived completely, bottom-up from the facts. """
+If a query gives all arguments, the function returns whether the sentence is true. Otherwise it returns the missing arguments of all
+answers, without duplicates. Results are cached for each position. Relations that depend on themselves are derived completely, bottom-up
+from the facts."""
 
 from collections.abc import Callable, Iterable, Iterator, Sequence
 
@@ -13,9 +14,9 @@ from .positions import Position, State, functor_of
 from .reading import DOES, TRUE, Asked, Condition, Either, NotFollowed, Rule, Same, Term, is_built, low, variables_of
 from .relations import Relations
 
-# Python expressions for bound variables.
+# The Python expression for each bound variable.
 Bound = dict[str, str]
-# Python allows twenty nested blocks.
+# Python allows at most twenty nested blocks.
 MOST_DEPTH = 12
 
 
@@ -48,7 +49,7 @@ class Program:
         self.space = {"NONE": (), "ONE": (0,), "Whole": positions.Whole, "BUSY": object(), "GoesRound": GoesRound, "low": low}
 
     def function(self, relation: Relation, known: tuple[bool, ...]) -> Callable:
-        """Returns the function of a relation for these known arguments."""
+        """Returns the function of a relation for queries that give these arguments."""
         name = self.name(relation, known)
         while self.waiting:
             waiting, self.waiting = self.waiting, []
@@ -86,7 +87,7 @@ class Program:
         return number
 
     def facts(self, relation: Relation, places: tuple[int, ...] | None) -> str:
-        """Returns the name of the facts of a relation: a table of all facts, or an index by these arguments."""
+        """Returns the name of a table with all facts of a relation, or of an index of the facts by these arguments."""
         key = "facts", relation, places
         if key not in self.made:
             rows = self.relations.facts.get(relation, {})
@@ -99,7 +100,7 @@ class Program:
 
 
 class Lines:
-    """Lines of Python code. `place` is the indentation, `depth` the number of nested loops."""
+    """Lines of Python code. `place` is the indentation, and `depth` is the number of nested loops."""
 
     def __init__(self, program: Program, extra: str = "") -> None:
         self.program, self.lines, self.helpers, self.extra = program, [], [], extra
@@ -129,7 +130,7 @@ class Lines:
                     self.part(place, member, f"{value}[{index}]", bound)
 
     def part(self, place: int, pattern: Term, value: str, bound: Bound) -> None:
-        """Matches a part of a term. The part is assigned to a variable if it is used more than once."""
+        """Writes lines that match a part of a term. If the part is used more than once, it is assigned to a variable."""
         if not is_known(pattern, bound):
             name = self.fresh()
             self.put(place, f"{name} = {value}")
@@ -137,7 +138,7 @@ class Lines:
         self.match(place, pattern, value, bound)
 
     def targets(self, patterns: Sequence[Term], bound: Bound) -> tuple[list[str], list[tuple[Term, str]]]:
-        """Returns variables for the parts of an answer, and the patterns that these still have to match."""
+        """Returns variables for the parts of an answer, and the patterns that these variables must still match."""
         names, rest = [], []
         for pattern in patterns:
             names.append(self.fresh())
@@ -160,7 +161,7 @@ class Lines:
         return found if condition.positive else f"not {found}"
 
     def cost(self, condition: Condition) -> int:
-        """Returns the cost of a test. Comparisons come before look-ups."""
+        """Returns the cost of a test. Tests with lower costs run first."""
         if isinstance(condition, Asked):
             return 3 if condition.relation in self.program.relations.rules else 1
         return 2 if isinstance(condition, Either) else 0
@@ -218,7 +219,7 @@ class Lines:
         self.loop_over_rows(place, rows, pattern, (0, *places), bound)
 
     def loop_over_rows(self, place: int, rows: str, patterns: Sequence[Term], known: tuple[int, ...], bound: Bound) -> None:
-        """Begins a loop over rows. The parts at some indices are known to match."""
+        """Begins a loop over rows. The parts at the indices `known` are known to match."""
         names, rest = self.targets([pattern for at, pattern in enumerate(patterns) if at not in known], bound)
         left = iter(names)
         self.put(place, f"for {tuple_text('_' if at in known else next(left) for at in range(len(patterns)))} in {rows}:")
@@ -291,7 +292,7 @@ class Lines:
         return min(binding, key=lambda condition: self.program.sizes.answers(condition, bound))
 
     def product(self, place: int, groups: list[list[Condition]], bound: Bound, finish: "Finish") -> None:
-        """Writes the lines that check groups of conditions. The groups have no variables in common, and each is checked only once."""
+        """Writes the lines that check groups of conditions. No two groups share an unbound variable, so each group is checked only once."""
         answers = []
         for group in sorted(groups, key=lambda group: self.program.sizes.answers(self.least(group, bound), bound)):
             own = {name for condition in group for name in variables_of(condition)}
@@ -310,8 +311,8 @@ class Lines:
         finish.write(self, place, bound)
 
     def helper(self, left: list[Condition], bound: Bound, finish: "Finish", answers: str = "F") -> str:
-        """Returns a call of a new function that checks conditions. The function returns whether the conditions can be satisfied, or adds the answers
-        to the earlier ones and returns all."""
+        """Returns a call of a new function that checks conditions. Depending on `finish`, the function either returns whether the
+        conditions can be satisfied, or adds their answers to the given ones and returns all of them."""
         name, needed = self.program.fresh("h"), {variable for condition in left for variable in variables_of(condition)} | set(finish.names)
         live = {variable: text for variable, text in bound.items() if variable in needed}
         inner, names = Lines(self.program, self.extra), {variable: self.program.fresh("v") for variable in live}
@@ -386,12 +387,12 @@ class Derived:
         lines.put(place, f"W.add({self.number}, {self.row(bound)})")
 
 
-# The action when all conditions of a body hold.
+# What to do when all conditions of a body hold.
 Finish = Truth | Answer | Derived
 
 
 class Asking:
-    """The function of a relation for known arguments."""
+    """Writes the function of a relation for queries that give certain arguments."""
 
     def __init__(self, program: Program, name: str, relation: Relation, known: tuple[bool, ...]) -> None:
         self.program, self.name, self.relation, self.known = program, name, relation, known
@@ -440,7 +441,7 @@ class Asking:
         lines.put(2, f"F[{key_text([f'R[{at}]' for at, is_given in enumerate(self.known) if not is_given])}] = None")
 
     def put_rule(self, lines: Lines, arguments: Sequence[Term], body: tuple[Condition, ...]) -> None:
-        """Writes the lines of a rule whose head has the known arguments."""
+        """Writes the lines of a rule. The known arguments must match its head."""
         bound = {}
         lines.put(1, "for _ in ONE:")
         for at, argument in enumerate(arguments):
@@ -450,7 +451,7 @@ class Asking:
         lines.body(2, body, bound, TRUTH if self.is_test else Answer(free))
 
     def kept(self) -> Iterator[str]:
-        """Yields the function that caches results."""
+        """Yields the lines of the function that caches results."""
         number = self.program.table((self.relation, self.known), self.relation in self.program.relations.timely)
         words, key = ["D", *self.parameters], key_text(self.parameters) if self.parameters else "0"
         yield f"def {self.name}({', '.join(words)}):"
@@ -468,7 +469,7 @@ class Asking:
 
 
 class Circle:
-    """The function that derives all rows of a cycle of relations."""
+    """Writes the function that derives all rows of a cycle of relations."""
 
     def __init__(self, program: Program, name: str, circle: tuple[Relation, ...]) -> None:
         self.program, self.name, self.circle = program, name, circle
@@ -495,7 +496,8 @@ class Circle:
         return [at for at, condition in enumerate(body) if isinstance(condition, Asked) and condition.relation in self.circle]
 
     def put_variant(self, lines: Lines, number: int, rule: Rule, at: int, variants: list[list[str]]) -> None:
-        """Writes the function that derives, by one rule, everything that follows from a new row of the condition at this index."""
+        """Writes a function for one rule. It takes a new row for the condition at this index, and derives everything that follows from the
+        row by this rule."""
         name, asked, bound = self.program.fresh("d"), rule.body[at], {}
         variants[self.circle.index(asked.relation)].append(name)
         lines.put(0, f"def {name}(D, W, R):")

@@ -1,4 +1,4 @@
-"""Replays a record with the published description, and checks its roles, states, moves, errors, end and goals."""
+"""Replays a record according to the published description, and checks its roles, states, moves, errors, end and goals."""
 
 import functools
 from collections.abc import Callable, Sequence
@@ -16,7 +16,7 @@ ILLEGAL, UNREADABLE = "IL ", "IL ?"
 
 
 class Differs(Exception):
-    """The differences between the record and the description, in lines."""
+    """The record differs from the description. The message has a line for each difference."""
 
 
 def read_record(line: bytes | str) -> dict:
@@ -43,8 +43,8 @@ def canonical_term(text: str) -> Term:
 
 
 class Following:
-    """The game, with caches of terms and their texts. For each role and move, `seen` has the first of the sentences that have derived the move so
-    far."""
+    """The game, with caches of terms and their texts. For each role and move, `seen` has the number of the first sentence that has derived
+    the move so far."""
 
     def __init__(self, game: Game) -> None:
         self.game, self.seen, self.in_order = game, {}, list(game.roles)
@@ -77,16 +77,17 @@ class Following:
             return
         lines = [f"{when} lacks {quoted(text)}, which {cited(own[text])}" for text in sorted(own.keys() - set(texts))[:MOST_TOLD]]
         more = sorted(set(texts) - own.keys())[:MOST_TOLD]
-        lines += [f"{when} has {quoted(text)}, which no sentence of the description gives there" for text in more]
+        lines += [f"{when} has {quoted(text)}, which no sentence of the description gives" for text in more]
         raise Differs("\n".join(lines or [f"{when} contains a term twice"]))
 
     def cited(self, relation: Relation, arguments: Sequence[Term], state: State, moves: Sequence[Term] = ()) -> str:
-        """Returns the beginning of a clause, such as `sentence 3 gives`: it cites the sentences that derive an atomic sentence in a state."""
+        """Returns the beginning of a clause that cites the sentences by which an atomic sentence is derived in a state, such as `sentence 3
+        gives`."""
         numbers = self.game.sources(relation, arguments, state, self.own_order(moves))
         return " and ".join(f"{self.game.cited(number)} gives" for number in numbers[:MOST_TOLD]) or "the description gives"
 
     def own_order(self, moves: Sequence[Term]) -> Sequence[Term]:
-        """Returns the moves in the game's role order."""
+        """Returns the moves in the order of the game's roles."""
         by_role = dict(zip(self.in_order, moves))
         return tuple(by_role[role] for role in self.game.roles) if moves else ()
 
@@ -105,7 +106,8 @@ class Following:
         return after
 
     def look_at_move(self, when: str, position: Position, role: str, move: Term, error: str) -> None:
-        """Checks that a move is legal. A replaced move must be the first legal one, and the answer must be illegal."""
+        """Checks that a move is legal. If it replaces an illegal answer, the answer must be illegal according to the description. If it
+        replaces any answer, it must be the first legal move."""
         if not self.game.is_legal(position, role, move):
             raise Differs(f"{when}: the record plays {quoted(move)}, which is not legal according to the description")
         if error.startswith(ILLEGAL) and error != UNREADABLE:
@@ -117,8 +119,8 @@ class Following:
             self.look_at_first(when, position, role, move)
 
     def look_at_first(self, when: str, position: Position, role: str, first: Term) -> None:
-        """Checks that the move that replaces an answer can be the first legal one. Moves are ordered by the sentence that derives them, then by head.
-        If several sentences derive a move, its place in this order may be unknown."""
+        """Checks that a move that replaces an answer can be the first legal one. Moves are ordered by the sentence that derives them, then
+        by head. If several sentences derive a move, its place in this order may be unknown."""
         least = self.least_place(role, first)
         for move in self.game.moves(position, role):
             greatest = self.greatest_place(position, role, move)
@@ -164,10 +166,10 @@ class Following:
         goals = self.game.goals(position, role)
         if goals != [value]:
             reasons = [f"{self.cited(GOAL, (role, str(goal)), position.state)} {goal}" for goal in goals]
-            raise Differs(f"{quoted(role)} has the goal {value} in the record, but according to the description {'; '.join(reasons) or 'none'}")
+            raise Differs(f"{quoted(role)} has the goal value {value} in the record, but according to the description {'; '.join(reasons) or 'none'}")
 
     def look_at_missing_goal(self, position: Position, at: int) -> None:
-        """Checks the role whose goals ended a match: it must be the first role without exactly one goal."""
+        """If the goals of a role ended the match, checks that this role is the first one without exactly one goal."""
         counts = [len(self.game.goals(position, role)) for role in self.in_order]
         without = next((place for place, count in enumerate(counts) if count != 1), None)
         if without != at:
@@ -176,7 +178,7 @@ class Following:
             raise Differs(f"{why}, but according to the description {words}")
 
     def look_at_legal(self, position: Position, at: int | None) -> None:
-        """Checks the role without a legal move whose turn ended a match."""
+        """Checks which role had no legal move in the turn that ended the match. `at` is the number of the role in the record, or None."""
         without = next((place for place, role in enumerate(self.in_order) if not self.game.moves(position, role)), None)
         if without != at:
             stuck, recorded = ("none" if place is None else quoted(self.in_order[place]) for place in (without, at))

@@ -1,4 +1,4 @@
-"""Interprets a game description: its first state, and in each state the legal moves, the next state, the end and the goals."""
+"""Interprets a game description: computes its first state and, for each state, the legal moves, the next state, the end and the goals."""
 
 import re
 from collections.abc import Sequence
@@ -37,20 +37,20 @@ class Game:
         self.ranks = {head: rank for rank, head in enumerate(dict.fromkeys(heads))}
 
     def position(self, state: State, moves: Sequence[Term] = ()) -> Position:
-        """Returns the position of a state, with a move of each role if `moves` are given. If a state has many more terms than earlier states, plans
-        the rules again."""
+        """Returns the position of a state, with a move of each role if `moves` are given. If a state has many more terms than earlier
+        states, the rules are planned again."""
         rows = grouped(state, functor_of)
         if not self.is_ground and (sizes := self.program.sizes.after(rows)):
             self.program = Program(self.program.relations, sizes)
         return self.program.position(state, list(zip(self.roles, moves)), rows)
 
     def compile(self) -> None:
-        """Compiles the functions that each turn uses, so that the first turn does not take longer."""
+        """Compiles the functions that each turn uses before the first turn, so that the first turn does not take longer than the others."""
         for relation, known in ((TERMINAL, ()), (LEGAL, (True, True)), (NEXT, (False,))):
             self.program.function(relation, known)
 
     def following(self, position: Position) -> list[Term]:
-        """Returns the terms of the state after the moves of a position."""
+        """Returns the terms of the next state, after the moves of a position."""
         return position.ask(NEXT, (False,))(position)
 
     def is_legal(self, position: Position, role: Term, move: Term) -> bool:

@@ -10,14 +10,14 @@ MOST_TURNS = 10_000
 
 
 def texts_of(state: State) -> list[str]:
-    """Returns the terms of a state as a record has them."""
+    """Returns the terms of a state in the form and order of a record."""
     return sorted(map(spelled, state))
 
 
 class Match:
-    """A match: its turns so far, and the marks of START and of the end by role number."""
+    """A match: its turns so far, and by role number the marks of START and those of the end."""
 
-    # How the record shows a state.
+    # How the record represents a state.
     recorded = staticmethod(texts_of)
 
     def __init__(self, game: Game, name: str, start: int, play: int, players: list[str]) -> None:

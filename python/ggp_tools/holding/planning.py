@@ -12,7 +12,7 @@ from .relations import Relations
 
 # The assumed number of values of an argument whose relation has no rows yet, and the maximum of an estimate.
 FEW, MOST = 3.0, 1e6
-# The rules are planned again for a state with more than GROWTH times as many terms as the plan assumes.
+# If a state has more than GROWTH times as many terms as the plan assumes, the rules are planned again.
 GROWTH, LEAST = 4, 2
 
 
@@ -40,7 +40,8 @@ def unknown(arguments: int) -> Table:
 
 
 class Sizes:
-    """Estimates the number of answers of conditions from the facts, and from the numbers of terms with each functor in the states so far."""
+    """Estimates the number of answers of conditions. The estimate uses the facts, and the numbers of terms with each functor in the states
+    so far."""
 
     def __init__(self, relations: Relations, roles: int, terms: Mapping[Relation, Collection[Term]]) -> None:
         self.relations, self.terms, self.tables = relations, terms, {}
@@ -48,7 +49,8 @@ class Sizes:
         self.all_terms = float(sum(map(len, terms.values())) or FEW)
 
     def after(self, terms: Mapping[Relation, Collection[Term]]) -> "Sizes | None":
-        """Returns new sizes if a state has many more terms with some functor than earlier states; otherwise None."""
+        """If a state has many more terms with some functor than earlier states, returns sizes that include this state. Otherwise returns
+        None."""
         if all(len(rows) <= GROWTH * max(LEAST, len(self.terms.get(functor, ()))) for functor, rows in terms.items()):
             return None
         larger = {functor: rows for functor, rows in terms.items() if len(rows) > len(self.terms.get(functor, ()))}
@@ -91,7 +93,7 @@ class Sizes:
         return Table(rows, [min(rows, max(column, values_at(place, joined))) for place, column in enumerate(columns)])
 
     def joined(self, body: Iterable[Condition]) -> tuple[float, dict[str, float]]:
-        """Estimates in how many ways all conditions hold, and how many values each variable has."""
+        """Estimates how many ways there are to satisfy all conditions, and how many values each variable has."""
         count, values, left = 1.0, {}, [condition for condition in body if isinstance(condition, Asked) and condition.positive]
         while left:
             best = min(left, key=lambda condition: self.answers(condition, values))
@@ -105,8 +107,8 @@ class Sizes:
 
 
 def values_at(place: int, joined: Iterable[tuple[Rule, float, Mapping[str, float]]]) -> float:
-    """Estimates from the rules of a relation how many values an argument has. Variables in the argument count with all their values, and each
-    different term without variables counts as one."""
+    """Estimates from the rules of a relation how many values an argument has: the maximum over the rules with variables in this argument,
+    or the number of different arguments without variables, if that is greater."""
     most, constants = 1.0, set()
     for rule, _, values in joined:
         argument = rule.arguments[place]

@@ -9,7 +9,7 @@ from ggp_tools.kif import grouped
 from .reading import Term
 
 State = frozenset[Term]
-# Rows by their values at some indices.
+# An index of rows by their values at some positions.
 Rows = dict[object, list[Term]]
 NONE = ()
 
@@ -25,8 +25,8 @@ def index_of(rows: Iterable[Term], places: tuple[int, ...]) -> Rows:
 
 
 class Position:
-    """A state, with the moves of a turn if they are known. `rows` are the terms of the state by functor, `fixed` the cached results that every state
-    has."""
+    """A state, with the moves of a turn if they are known. `rows` has the terms of the state by functor. `fixed` has the cached results
+    that are the same in every state."""
 
     def __init__(self, state: State, pairs: Sequence[tuple[str, Term]], rows: dict[tuple[str, int], list[Term]], ask: Callable, fixed: dict) -> None:
         self.state, self.rows, self.ask, self.indexes = state, rows, ask, {}
@@ -62,7 +62,7 @@ class Whole:
             table.setdefault(key(row), []).append(row)
 
     def index(self, number: int, places: tuple[int, ...]) -> Callable:
-        """Returns an index of the rows of a relation. It is updated when rows are added."""
+        """Returns an index of the rows of a relation. New rows are added to the index."""
         table = self.indexes.get((number, places))
         if table is None:
             table = self.indexes[number, places] = index_of(self.lists[number], places)
@@ -70,7 +70,7 @@ class Whole:
         return table.get
 
     def close(self, variants: list[list[Callable]]) -> None:
-        """Derives all rows: passes each new row to all rules that use it."""
+        """Derives all rows. Each new row is passed to all rules that use it."""
         while self.queue:
             number, row = self.queue.pop()
             for variant in variants[number]:

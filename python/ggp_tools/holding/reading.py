@@ -1,7 +1,7 @@
 """Parses the rules of a description for the interpreter.
 
-The classes below are the conditions of rules. In these rules, only relations that can be derived are negated, and other conditions of the rule bind
-all variables of an `or`. In a ground description each atomic sentence becomes a relation. """
+The classes below are the conditions of rules. Only `Asked` and `Same` can be negated. If an `or` stays a condition, other conditions of the
+rule bind all of its variables. In a ground description, each atomic sentence becomes a relation."""
 
 from collections.abc import Iterator
 from functools import lru_cache
@@ -17,7 +17,7 @@ OWN = (INIT, NEXT, LEGAL, GOAL, ROLE, TERMINAL)
 
 
 class NotFollowed(Refused):
-    """The reason why a record could not be checked, which shows nothing about the game."""
+    """The reason why a record could not be checked. It shows nothing about the game."""
 
 
 class Asked(NamedTuple):
@@ -54,7 +54,7 @@ class Rule(NamedTuple):
 
 
 def term_of(text: str) -> Term:
-    """Parses a move, or a term of a state."""
+    """Parses a move or a term of a state."""
     parsed = expressions(text)
     if len(parsed) != 1:
         raise NotFollowed("it is not a record: a text of it is not one term")
@@ -62,7 +62,7 @@ def term_of(text: str) -> Term:
 
 
 def low(term: Term) -> Term:
-    """Returns the term, but refuses one that is nested more deeply than the referee allows, for example because a rule has infinitely many
+    """Returns the term. Refuses a term that is nested more deeply than the referee allows, for example because a rule has infinitely many
     instances."""
     if levels(term) > MOST_LEVELS:
         raise NotFollowed(f"a term is nested more than {MOST_LEVELS} lists deep")
@@ -89,7 +89,7 @@ def condition_of(literal: gdl.Literal) -> Condition:
 
 
 def tests_of(literal: Expression, positive: bool = True) -> list[Condition]:
-    """Returns conditions that are together equivalent to a literal, or to its negation. An `or` stays one condition."""
+    """Returns conditions that together are equivalent to a literal, or to its negation. An `or` stays one condition."""
     match literal:
         case ("not", inner):
             return tests_of(inner, not positive)
@@ -132,7 +132,7 @@ def with_relations(rules: list[Rule]) -> list[Rule]:
 
 
 def alone(condition: Condition) -> Condition:
-    """Replaces each atomic sentence of a condition with a relation without arguments."""
+    """Turns each atomic sentence of a condition into a relation without arguments."""
     if isinstance(condition, Either):
         return Either(tuple(tuple(map(alone, way)) for way in condition.ways))
     if isinstance(condition, Same) or condition.relation in (TRUE, DOES) or not condition.arguments:

@@ -1,4 +1,4 @@
-"""Classifies relations: their facts and rules, and which of them depend on the state, on moves, or on themselves."""
+"""Classifies relations: finds their facts and rules, and which of them depend on the state, on moves, or on themselves."""
 
 from collections.abc import Iterator
 
@@ -22,13 +22,13 @@ class Relations:
         gdl.refuse_dependence(self.asks, self.source)
         self.circles, self.denying = {}, set()
         self.timely = {TRUE, DOES}
-        # The number of the cache of each function, and the caches of results that do not depend on the state.
+        # The number of the cache of each function, and the caches of the results that do not depend on the state.
         self.tables, self.fixed = {}, {}
         for group in gdl.components(self.asks):
             self.take(set(group))
 
     def source(self, head: Relation, asked: Relation) -> int:
-        """Returns the first sentence in which a relation uses another."""
+        """Returns the first sentence in which one relation uses another."""
         return next(rule.sentence for rule in self.rules[head] if any(condition.relation == asked for condition in all_asked(rule.body)))
 
     def take(self, group: set[Relation]) -> None:

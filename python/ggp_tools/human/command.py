@@ -10,8 +10,10 @@ the referee).
 """
 
 import argparse
+import resource
 import sys
 
+from ggp_tools.holding.command import limit_memory
 from ggp_tools.human.seat import Seat
 from ggp_tools.human.server import Server
 from ggp_tools.streams import address, whole
@@ -32,6 +34,8 @@ def main() -> int:
     # If the package is missing, the command ends here.
     environment()
     sys.setrecursionlimit(MOST_CALLS)
+    # A short description may have more moves or larger states than fit into any memory.
+    limit_memory(resource.RLIMIT_DATA)
     try:
         server = Server((options.bind, options.port), Seat(options.referee, is_hex=options.board == "hex"))
     except (OSError, OverflowError) as why:

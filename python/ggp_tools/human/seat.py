@@ -1,15 +1,20 @@
 """Plays one match at a time for a person: answers the referee's messages with the person's moves."""
 
 import contextlib
+import itertools
 import re
 import sys
 import threading
 import time
 from collections.abc import Callable, Iterable
+from typing import TypeVar
 
 from ggp_tools.holding.game import Game
 from ggp_tools.human.game import Shown
-from ggp_tools.kif import Refused, expressions, spelled
+from ggp_tools.instantiating.limits import LARGE
+from ggp_tools.kif import Refused, blanked, expressions, spelled, starts, tokens
+
+Value = TypeVar("Value")
 
 # The keyword of a message, and the id of its match.
 HEAD = re.compile(r"\s*\(\s*([A-Za-z]+)\s+([^\s()]+)")
@@ -18,6 +23,7 @@ SPARE = 0.5
 # A referee that is this many seconds late with its next message is considered lost. Then a START from another referee is accepted.
 PATIENCE = 10.0
 NO_MOVES = ("nil", ())
+OUT_OF_MEMORY = "they need too much memory"
 # A sender becomes the referee with one of these messages.
 INTRODUCES = "info", "start"
 NO_MATCH = "No match yet: the referee has not sent START."
@@ -25,7 +31,7 @@ NO_MATCH = "No match yet: the referee has not sent START."
 MOST_MESSAGE = 131_072
 CLOCK = re.compile("[0-9]{1,5}")
 # The exceptions that invalid rules can cause.
-BAD_RULES = (Refused, RecursionError, IndexError, KeyError, TypeError, ValueError)
+BAD_RULES = (Refused, RecursionError, MemoryError, IndexError, KeyError, TypeError, ValueError)
 
 
 class Unread(Exception):
@@ -42,34 +48,43 @@ def head_of(text: str) -> tuple[str, str]:
     return head[1].lower(), head[2]
 
 
-def members_of(text: str) -> tuple:
-    """Returns the members of a message after its keyword and its match."""
+def members_of(text: str) -> list[str]:
+    """Returns the texts of the members of a message after its keyword and its match."""
+    text = blanked(text).rstrip()
+    head = HEAD.match(text)
+    rest = text[head.end() :].removesuffix(")") if head else ")"
     try:
-        # The rules in a message are parsed separately. Only a START could be nested more deeply, and it would fill the memory.
-        terms = expressions(text, MOST_MESSAGE, takes_bytes=True)
+        # The rules in a START are parsed later. Only they could be nested more deeply.
+        begins = starts(rest, MOST_MESSAGE - 1, takes_bytes=True)
     except Refused as why:
         raise Unread(str(why)) from None
-    if len(terms) != 1:
-        raise Unread("it is not one list with a keyword and a match")
-    return terms[0][2:]
+    if not text.endswith(")"):
+        raise Unread("a list that is not closed")
+    return [rest[begin:end].strip() for begin, end in itertools.pairwise([*begins, len(rest)])]
 
 
-def game_of(rules: object) -> Game:
-    """Returns the game of the rules in a START."""
-    if not isinstance(rules, tuple):
+def game_of(rules: str) -> Game:
+    """Returns the game of the rules in a START. Refuses longer ones than the referee can send, because they could fill the memory."""
+    if not rules.startswith("("):
         raise Refused("they are not a list")
-    return Game("\n".join(map(spelled, rules)), takes_bytes=True)
+    # The file of the rules needs no space before or after a list.
+    size = len(rules) - rules.count(" (") - rules.count(") ") + rules.count(") (")
+    sentences = (index for token, index, around in tokens(rules, takes_bytes=True) if around == 1 and token != ")")
+    if size > LARGE["bytes"] + len("()") or next(itertools.islice(sentences, LARGE["sentences"], None), None):
+        raise Refused("they are longer than the rules of any game")
+    return Game(rules[1:-1], takes_bytes=True)
 
 
-def clock_of(text: object) -> int:
+def clock_of(text: str) -> int:
     """Parses the seconds of a clock."""
-    if not isinstance(text, str) or not CLOCK.fullmatch(text):
+    if not CLOCK.fullmatch(text):
         raise Unread("a clock is not a number of seconds")
     return int(text)
 
 
-def joint_move(moves: object, count: int) -> tuple:
-    """Returns the moves of a message, empty for `NIL`."""
+def joint_move(text: str, count: int) -> tuple:
+    """Parses the moves of a message, empty for `NIL`."""
+    (moves,) = expressions(text, MOST_MESSAGE, takes_bytes=True)
     if moves in NO_MOVES:
         return ()
     if not isinstance(moves, tuple) or len(moves) != count:
@@ -82,7 +97,7 @@ class Seat:
 
     def __init__(self, referees: Iterable[str] = (), is_hex: bool = False) -> None:
         self.changed = threading.Condition()
-        # One START is read at a time, because its rules may be long.
+        # Held while a START is read or rules are evaluated. One START is read at a time, because its rules may be long.
         self.reading = threading.Lock()
         self.version, self.pages, self.is_hex = 0, 0, is_hex
         self.match, self.receiver = "", ""
@@ -119,11 +134,11 @@ class Seat:
         if not self.is_own(match, receiver) or len(text) > MOST_MESSAGE:
             return "busy"
         match keyword, members_of(text):
-            case "play", (moves,):
+            case "play", [moves]:
                 return self.play(moves, is_taken)
-            case "stop", (moves,):
+            case "stop", [moves]:
                 return self.stop(moves)
-            case "abort", ():
+            case "abort", []:
                 self.end(self.next_message(), "aborted", "The referee has given the match up.")
                 return "aborted"
         return "busy"
@@ -189,15 +204,16 @@ class Seat:
             self.changed.wait_for(lambda: self.is_person_there() or self.asked != asked, max(0.0, left))
         return "ready"
 
-    def begin(self, match: str, receiver: str, role: object, rules: object, start: object, play: object) -> int | None:
+    def begin(self, match: str, receiver: str, role: str, rules: str, start: str, play: str) -> int | None:
         """Begins a match. Returns the number of its START, or None if the match is refused."""
         play_clock, asked = clock_of(play), self.next_message(clock_of(start))
         try:
-            shown, own = Shown(game_of(rules), self.is_hex), spelled(role)
+            shown, (role,) = Shown(game_of(rules), self.is_hex), expressions(role, takes_bytes=True)
+            own = spelled(role)
             if own not in shown.roles:
                 raise Refused(f"they have no role {own}")
         except BAD_RULES as why:
-            self.refuse(asked, f"A match was refused, since its rules can't be followed: {why}")
+            self.refuse(asked, f"A match was refused, since its rules can't be followed: {str(why) or OUT_OF_MEMORY}")
             return None
         with self.changed:
             if self.asked != asked:
@@ -214,14 +230,31 @@ class Seat:
                 self.match = ""
                 self.say(phase="waiting", note=note)
 
-    def play(self, moves: object, is_taken: Callable[[], None]) -> str | None:
-        """Shows the state and waits for the person's move. While a page is open, a single legal move is made without asking."""
-        deadline, made = time.monotonic() + self.play_clock - SPARE, joint_move(moves, len(self.shown.roles))
+    def follow(self, seconds: int, moves: tuple, found: Callable[[Shown], Value]) -> tuple[int, str, Value]:
+        """Applies the joint move of a message with a clock of this many seconds. Returns the number of the message, a note, and what is found in the
+        new state. The person can leave the match even while the rules are evaluated, which may take forever."""
         with self.changed:
-            asked = self.next_message(self.play_clock)
-            note = self.advance(made)
-            legal = self.shown.legal(self.role)
+            asked, shown, sent, reading = self.next_message(seconds), self.shown, self.sent, self.reading
+        is_free = reading.acquire(timeout=seconds + PATIENCE)
+        try:
+            if not is_free:
+                raise Refused("they take too long")
+            return asked, self.advance(shown, moves, sent), found(shown)
+        except BAD_RULES as why:
+            self.refuse(asked, f"The match can't be followed any more, because of its rules: {str(why) or OUT_OF_MEMORY}")
+            raise Unread("the rules of its match can't be followed") from None
+        finally:
+            if is_free:
+                reading.release()
+
+    def play(self, text: str, is_taken: Callable[[], None]) -> str | None:
+        """Shows the state and waits for the person's move. While a page is open, a single legal move is made without asking."""
+        deadline, made = time.monotonic() + self.play_clock - SPARE, joint_move(text, len(self.shown.roles))
+        asked, note, legal = self.follow(self.play_clock, made, lambda shown: shown.legal(self.role))
+        with self.changed:
             is_taken()
+            if self.asked != asked or not self.match:
+                return None
             self.sent, self.legal, self.deadline = None, legal, deadline
             self.show("moving", legal, note)
             self.changed.wait_for(lambda: self.has_move() or self.asked != asked, max(0.0, deadline - time.monotonic()))
@@ -241,22 +274,19 @@ class Seat:
         """Returns whether the person has chosen a move, or has only one."""
         return self.sent is not None or len(self.legal) == 1 and self.is_person_there()
 
-    def stop(self, moves: object) -> str:
-        made = joint_move(moves, len(self.shown.roles))
-        with self.changed:
-            asked = self.next_message()
-            note = self.advance(made)
-            text = ", ".join(f"{role} {'no goal' if goal is None else goal}" for role, goal in self.shown.goals().items())
-            self.end(asked, "over", f"{note} The match is over: {text}.".strip())
+    def stop(self, text: str) -> str:
+        asked, note, goals = self.follow(0, joint_move(text, len(self.shown.roles)), lambda shown: shown.goals())
+        said = ", ".join(f"{role} {'no goal' if goal is None else goal}" for role, goal in goals.items())
+        self.end(asked, "over", f"{note} The match is over: {said}.".strip())
         return "done"
 
-    def advance(self, moves: tuple) -> str:
+    def advance(self, shown: Shown, moves: tuple, sent: str | None) -> str:
         """Applies the joint move of a message. Returns a note about it."""
         if not moves:
             return ""
-        self.shown.advance(moves)
-        own = spelled(moves[self.shown.roles.index(spelled(self.role))])
-        return f"Your move was replaced by {own}." if own != self.sent else ""
+        shown.advance(moves)
+        own = spelled(moves[shown.roles.index(spelled(self.role))])
+        return f"Your move was replaced by {own}." if own != sent else ""
 
     # ---- the page
 

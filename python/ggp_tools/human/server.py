@@ -18,11 +18,12 @@ from http.server import BaseHTTPRequestHandler, ThreadingHTTPServer
 from http import HTTPStatus
 
 from ggp_tools.human.seat import MOST_MESSAGE, Seat, Unread
+from ggp_tools.instantiating.limits import LARGE
 from ggp_tools.templating import source
 from ggp_tools.visitors import THIS_COMPUTER, Visitors, client_of
 
-# START has the whole rules, with a space for each atom and each list.
-MOST_BYTES, MOST_MOVE = 33_554_432, 65_536
+# START has the whole rules. Their file has a byte for each atom and between two atoms, and the message at most a space more for each atom.
+MOST_BYTES, MOST_MOVE = LARGE["bytes"] * 3 // 2 + MOST_MESSAGE, 65_536
 # The server stops reading a head after this many bytes, because parsing a longer one may take minutes.
 LONGEST_HEAD = 16_384
 # After this many seconds without a change, the page is sent a line. This also detects that the page was closed.
@@ -162,7 +163,7 @@ class Handler(BaseHTTPRequestHandler):
         self.asked.wait_for_turn()
         try:
             answer = self.server.seat.answer(body.decode("latin-1"), self.headers["Receiver"] or "", self.client_address[0], self.asked.is_taken.set)
-        except (Unread, RecursionError) as why:
+        except (Unread, RecursionError, MemoryError) as why:
             self.send_error(HTTPStatus.BAD_REQUEST, ascii(str(why)[:200]))
             return
         if answer is None:

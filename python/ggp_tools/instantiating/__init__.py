@@ -1,1 +1,1 @@
-"""Grounds games: makes a ground description from one with variables."""
+"""Grounds games: makes a ground description from a description with variables."""

@@ -27,7 +27,7 @@ def write_player_rules(made: Making, file: str) -> None:
         raise Refused(f"nothing is written, because the text for players exceeds the limit: bytes ({len(text):,} of {MOST['bytes']:,})")
     with open(file, "w", encoding="ascii") as stream:
         stream.write(text)
-    report(f"  for players {len(text):,} bytes with variables in {file}")
+    report(f"  text for players: {len(text):,} bytes with variables, in {file}")
 
 
 def arguments() -> argparse.Namespace:

@@ -18,12 +18,12 @@ from .formulas import FALSE, TRUE, Formulas
 from ggp_tools.kif import DIGITS, Expression, Refused, atoms, fresh, relation
 from ggp_tools.gdl import GAME, Rule
 
-# The numbers of the formulas of a body.
+# A body: the numbers of its formulas.
 Formed = frozenset[int]
 # The maximum nesting of joined sentences.
 MOST_DEEP = 48
 ROUNDS = 30
-# A lower bound for the bytes of a sentence with a condition, if the names in it are as short as those of parts.
+# A lower bound for the bytes of a sentence with a condition, if its names are as short as the names of parts.
 LEAST_BYTES = 24
 
 
@@ -45,8 +45,9 @@ class Target(NamedTuple):
 
 
 class Folded:
-    """The game as formulas: the bodies of each head, each a set of formulas that must all be true. For each body, `origins` has the number of its
-    bytes that come from each sentence of the description. A part has no entry, because its bytes are divided like those of the bodies that use it."""
+    """The game as formulas: the bodies of each head, each a set of formulas that must all be true. For each body, `origins` has the number
+    of its bytes that come from each sentence of the description. A part has no entry: its bytes are divided in the same proportions as
+    those of the bodies that use the part."""
 
     def __init__(self, rules: list[Rule]) -> None:
         self.formulas, self.bodies, self.sources = Formulas(), {}, {}
@@ -106,7 +107,7 @@ class Folded:
         return costs
 
     def asked_by(self) -> dict[int, list[tuple[int, Formed]]]:
-        """Returns the bodies that use each part, with their heads."""
+        """Returns, for each part, the bodies that use it, with their heads."""
         users = defaultdict(list)
         for head, bodies in self.bodies.items():
             for body in bodies:
@@ -116,7 +117,7 @@ class Folded:
         return users
 
     def of_part(self, part: int, asked_by: dict[int, list[tuple[int, Formed]]], known: dict[int, Counter[int]]) -> Counter[int]:
-        """Returns the origins of a part: those of the bodies that use it."""
+        """Returns the origins of a part, which are those of the bodies that use it."""
         if part not in known:
             known[part] = Counter()
             for head, body in asked_by[part]:
@@ -124,7 +125,7 @@ class Folded:
         return known[part]
 
     def take_origins(self, head: int, body: Formed, new: Formed, by: dict[int, int]) -> None:
-        """Records the origins of a body after replacing heads with formulas. The added bytes come from the rules of these heads."""
+        """Records the origins of a body in which heads were replaced with formulas. The added bytes come from the rules of these heads."""
         own = self.origins[head][new]
         own.update(scaled(self.origins[head][body], self.sentence_size(head, body)))
         grown = self.sentence_size(head, new) - self.sentence_size(head, body)
@@ -195,8 +196,8 @@ class Folded:
         return self.formulas.any([shared_part, self.factored(others, depth + 1)]) if others else shared_part
 
     def join(self, most: int) -> None:
-        """Joins the sentences of one head into one, the cheapest first, until there are at most `most` sentences. Always joins sentences if that
-        makes them shorter."""
+        """Joins all sentences of a head into one, for the cheapest heads first, until there are at most `most` sentences. Sentences that
+        become shorter are always joined."""
         costs = []
         for head, bodies in self.bodies.items():
             if len(bodies) > 1:
@@ -218,7 +219,7 @@ class Folded:
     # ---- Inlining --------------------------------------------------------------------------------
 
     def uses(self) -> list[int]:
-        """Returns how often each formula occurs in the text."""
+        """Returns, for each formula, how often it occurs in the text."""
         counts = [0] * len(self.formulas.nodes)
         for bodies in self.bodies.values():
             for body in bodies:
@@ -268,8 +269,8 @@ class Folded:
             self.settle()
 
     def must_have_room(self, target: Target) -> None:
-        """Refuses early a game that cannot be factored to within a target. The sentences of the game's own relations stay, so other sentences must be
-        inlined until the limit is met. The bytes that this costs can only grow later."""
+        """Refuses a game early if it cannot be factored to within a target. The sentences of the game's own relations stay, so other
+        sentences must be inlined until their number is within the limit. Later, this can only cost more bytes."""
         if len(self.own) > target.sentences:
             raise Hopeless(f"sentences (at least {len(self.own):,} of {target.sentences:,})")
         many = len(self.bodies) - target.sentences
@@ -285,7 +286,7 @@ class Folded:
             self.must_be_short(target)
 
     def must_be_short(self, target: Target) -> None:
-        """Estimates the length, and refuses a game that limited work is unlikely to bring within a target."""
+        """Refuses a game if its present length shows that limited work is unlikely to bring it within the target."""
         if target.work < math.inf and self.bytes() > SHORTER * target.bytes:
             raise Hopeless(f"bytes (about {self.bytes() // SHORTER:,} of {target.bytes:,})")
 
@@ -307,7 +308,7 @@ class Folded:
         return self.sentences() <= target.sentences and self.bytes() <= target.bytes
 
     def costs_of_placing(self) -> Iterator[tuple[int, int, int, set[int]]]:
-        """Yields each head that can be inlined: the bytes that inlining costs, its formula, and the heads that it uses."""
+        """Yields each head that can be inlined, with the bytes that inlining costs, its formula, and the heads that it uses."""
         uses, sizes, depths = self.uses(), self.formulas.sizes, self.formulas.depths
         deepest = max((depths[formula] for bodies in self.bodies.values() for body in bodies for formula in body), default=0)
         for head, bodies in self.bodies.items():
@@ -337,7 +338,8 @@ class Folded:
         return frozenset(formulas)
 
     def share_bodies(self, most: int) -> None:
-        """Turns each body that many sentences have into a sentence, if this makes the text smaller, up to `most` sentences."""
+        """Turns each body that several sentences share into a separate sentence, if this makes the text smaller, as long as there are fewer
+        than `most` sentences."""
         counts = Counter(body for bodies in self.bodies.values() for body in bodies if len(body) > 1)
         name_size, gains = len(self.word) + 4, []
         for place, (body, count) in enumerate(counts.items()):
@@ -357,7 +359,8 @@ class Folded:
         return self.formulas.atom(f"{self.word}{self.part_count}")
 
     def share(self, most: int) -> None:
-        """Turns each formula that many sentences share into a sentence, if this makes the text smaller, up to `most` sentences."""
+        """Turns each formula that several sentences share into a separate sentence, if this makes the text smaller, as long as there are
+        fewer than `most` sentences."""
         refs = Counter(formula for bodies in self.bodies.values() for body in bodies for formula in body)
         nodes, sizes = self.formulas.nodes, self.formulas.sizes
         for number in range(len(nodes) - 1, -1, -1):
@@ -394,7 +397,8 @@ class Folded:
         return frozenset(self.formulas.replaced(formula, known, False) for formula in body)
 
     def name_parts(self, chosen: list[int]) -> None:
-        """Gives each of these formulas a sentence, the smaller ones first, and uses its name wherever the formula occurs."""
+        """Gives each of these formulas a sentence, the smaller ones first. Replaces the formula with the name of its sentence wherever it
+        occurs."""
         known, made = {}, {}
         for number in chosen:
             name = self.new_part()
@@ -413,7 +417,7 @@ class Folded:
     # ---- Output ----------------------------------------------------------------------------------
 
     def written(self) -> Iterator[tuple[int, Expression]]:
-        """Yields each sentence with the number of the sentence that it comes from."""
+        """Yields each sentence with the number of the sentence from which it was made."""
         for head, bodies in self.bodies.items():
             atom = self.formulas.nodes[head][1]
             for body in bodies:
@@ -428,8 +432,8 @@ def scaled(shares: Mapping[int, float], size: float) -> dict[int, float]:
 
 
 def merged(bodies: list[Formed], formulas: Formulas, origins: dict[Formed, Counter[int]]) -> list[Formed]:
-    """Merges bodies that differ in only one literal into one with an `or`, as long as there are such bodies. A merged body has the origins of all
-    bodies that it was made from."""
+    """As long as two bodies differ in only one literal, merges them into one body with an `or`. A merged body has the origins of all bodies
+    from which it was made."""
     while True:
         groups, known = {}, set(bodies)
         for body in bodies:
@@ -461,8 +465,8 @@ def begun(rules: list[Rule]) -> Folded:
 
 
 def folded(rules: list[Rule], targets: Sequence[Target]) -> Folded:
-    """Factors the game to within the first of these targets that it can reach. Each target is larger than the previous one. Refuses the game if it
-    can reach none of them."""
+    """Factors the game to within the first of these targets that it can reach. Each target is larger than the previous one. If the game can
+    reach none of them, it is refused."""
     game, why = None, None
     for target in targets:
         game = game or begun(rules)

@@ -1,4 +1,4 @@
-"""Writes the description with variables for players. The programs of players may read `base` and `input` in it."""
+"""Writes the description with variables for players. Players' programs may read `base` and `input` in it."""
 
 from ggp_tools.gdl import Literal, each_of, ways_of
 from ggp_tools.instantiating.limits import atoms_of
@@ -6,9 +6,9 @@ from ggp_tools.kif import Expression, grouped, head_of, relation, spelled
 
 
 def text_for_players(sentences: list[Expression], ground_heads: list[Expression]) -> str:
-    """Returns one sentence on each line, in canonical text and without `and`. Roles that rules derive become facts, in the order of the ground
-    description. If no sentence mentions `base`, adds a fact for each possible term of a state; if none mentions `input`, adds a fact for each
-    possible move. If a sentence used such a relation without defining it, added facts would change the game."""
+    """Returns one sentence on each line, in canonical text and without `and`. Roles that rules derive become facts, in the order of the
+    ground description. If no sentence mentions `base`, adds a fact for each possible term of a state; if none mentions `input`, adds a fact
+    for each possible move. If a sentence mentioned such a relation, the added facts could change the game."""
     mentioned = {relation(atom) for sentence in sentences for atom in atoms_of(sentence)}
     heads = grouped(ground_heads, relation)
     written = [*heads.get(("role", 1), ())]

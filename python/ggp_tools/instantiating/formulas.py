@@ -12,7 +12,8 @@ TRUE, FALSE = 0, 1
 
 
 class Formulas:
-    """A node is an atomic sentence, `("not", number)` or `("or", sorted numbers)`. `work` counts the members of created formulas."""
+    """Stores formulas as nodes. A node is an atomic sentence, `("not", number)` or `("or", sorted numbers)`. `work` counts the members of
+    created formulas."""
 
     def __init__(self) -> None:
         self.work = 0
@@ -58,7 +59,7 @@ class Formulas:
         return FALSE if not members else TRUE if self.has_all_moves(members) else self.listed(members)
 
     def alternatives(self, numbers: Iterable[int]) -> set[int]:
-        """Returns these formulas, with each `or` replaced by its members."""
+        """Returns these formulas, but replaces each `or` with its members."""
         return {member for number in numbers for member in (self.members(number) if self.nodes[number][0] == "or" else (number,))}
 
     def listed(self, members: set[int]) -> int:
@@ -78,7 +79,7 @@ class Formulas:
         return self.no(self.any([self.no(number) for number in numbers]))
 
     def members(self, number: int) -> tuple[int, ...]:
-        """Returns the formulas that this one joins or negates."""
+        """Returns the formulas that this formula joins or negates."""
         node = self.nodes[number]
         return (node[1],) if node[0] == "not" else node[1] if node[0] == "or" else ()
 
@@ -101,7 +102,8 @@ class Formulas:
         return None if roles or role is None else (role, frozenset(members))
 
     def body(self, numbers: Iterable[int]) -> frozenset[int] | None:
-        """Returns the formulas of a body as a set, with those about one role's moves combined. Returns None if the body is never true."""
+        """Returns the formulas of a body as a set. Formulas about the moves of the same role are combined. If the body is never true,
+        returns None."""
         formulas, allowed = set(), {}
         for number in numbers:
             for part in self.parts(number):
@@ -119,7 +121,8 @@ class Formulas:
         return frozenset(formulas)
 
     def shortest(self, number: int) -> int:
-        """Returns the formula with each `or` of many moves of a role replaced by the negated `or` of the others, wherever this is shorter."""
+        """Returns a formula in its shortest form: each `or` of moves of a role is replaced with the negated `or` of the role's other moves,
+        wherever this is shorter."""
         node = self.nodes[number]
         if node[0] == "not":
             return self.no(self.shortest(node[1]))
@@ -129,7 +132,7 @@ class Formulas:
         for role, those in grouped((member for member in node[1] if member in self.role_of), self.role_of.get).items():
             others = self.no(self.listed(self.moves[role].difference(those)))
             together = self.listed(those)
-            # The rest stays a separate `or`, because other sentences may share it.
+            # The moves of a role stay a separate `or`, because other sentences may share it.
             members.append(others if self.sizes[others] < self.sizes[together] else together)
         return members[0] if len(members) == 1 else self.listed(set(members))
 
@@ -142,7 +145,8 @@ class Formulas:
         return "or", *map(self.expression, node[1])
 
     def replaced(self, number: int, known: dict[int, int], is_simplified: bool) -> int:
-        """Replaces the parts of a formula that are in `known`, which is also the cache. May simplify the result."""
+        """Returns a formula in which each part that `known` contains is replaced. Results are also cached in `known`. If `is_simplified` is
+        set, the result is simplified."""
         if number not in known:
             node = self.nodes[number]
             if node[0] == "not":

@@ -12,13 +12,13 @@ from collections.abc import Iterable, Iterator
 from ggp_tools.kif import MOST_LEVELS, Expression, Refused, Relation, arguments_of, levels, relation, variables
 from ggp_tools.gdl import GAME, Literal, Rule
 
-# The limits of the grounder's memory and of the number of instances.
+# The limits of the grounder's memory, and of the number of instances.
 MEMORY, MOST_INSTANCES = 2 << 30, 1_000_000
 
 
 class LogicProgram:
-    """The input of the grounder. Relations are p0, p1, .., the instances of kept rules are i0, i1, .., and terms are quoted strings and tuples, so
-    that every KIF atom is possible."""
+    """The input of the grounder. Relations are p0, p1, .., the instances of kept rules are i0, i1, .., and terms are quoted strings and
+    tuples, so that they can contain every KIF atom."""
 
     def __init__(self, rules: list[Rule], unsettled: set[Relation]) -> None:
         self.unsettled, self.numbers = unsettled, {}
@@ -110,7 +110,8 @@ class TooSlow(Refused):
 
 
 class Grounder:
-    """One run of gringo. It ends when all instances were read, when a limit is exceeded, or at an exception, for example by the timer."""
+    """One run of gringo. It ends when all instances have been read, when a limit is exceeded, or when an exception is raised, for example
+    by the timer."""
 
     def __init__(self, program: LogicProgram, most: int = MOST_INSTANCES, seconds: float = math.inf) -> None:
         self.program, self.most, self.seconds, self.counts, self.lists = program, most, seconds, Counter(), {}
@@ -135,7 +136,7 @@ class Grounder:
         if status == -signal.SIGXCPU:
             raise TooSlow(f"gringo took more than {self.seconds:g} s")
         if "bad_alloc" in errors or status < 0:
-            raise Refused(f"gringo took {MEMORY >> 30} GiB")
+            raise Refused(f"gringo ran out of memory: its limit is {MEMORY >> 30} GiB")
         if status:
             raise Refused(f"gringo refuses it: {' '.join(errors.split())[:300]}")
         return instances
@@ -158,7 +159,7 @@ class Grounder:
                 yield int(name[1:]), term_list(arguments)
 
     def lists_in(self, rule: Rule) -> int:
-        """Returns the number of lists in the largest sentence that was derived for a rule's relation."""
+        """Returns how many lists the largest sentence contains that was derived for a rule's relation."""
         return self.lists.get(self.program.name(relation(rule.head)), 0)
 
     def largest(self) -> tuple[int, ...]:
@@ -175,5 +176,5 @@ def limit_process(seconds: float) -> None:
     resource.setrlimit(resource.RLIMIT_AS, (MEMORY, MEMORY))
     if seconds < math.inf:
         most = math.ceil(seconds)
-        # SIGXCPU, which shows the reason, comes at the soft limit. At the hard limit the process would only be killed.
+        # At the soft limit, the process gets SIGXCPU, which shows the reason. At the hard limit, it would only be killed.
         resource.setrlimit(resource.RLIMIT_CPU, (most, most + 1))

@@ -6,7 +6,7 @@ from operator import attrgetter
 from ggp_tools.kif import Expression, grouped, place, put, relation
 from ggp_tools.gdl import GAME, Body, Literal, Rule, reached
 
-# The rules to ground, each with the variables whose values are the terms of an instance.
+# The rules to ground. Each has the list of its variables, whose values are the terms of an instance.
 Kept = Sequence[tuple[Rule, Sequence[str]]]
 # The number of a rule, and the terms of the instance.
 Instance = tuple[int, Sequence[Expression]]
@@ -44,7 +44,7 @@ def shortened(body: Body, can_be: set[Expression]) -> Body | None:
 
 
 def needed(rules: list[Rule]) -> list[Rule]:
-    """Returns the rules of the game's own relations, and the rules that these depend on."""
+    """Returns the rules of the game's own relations, and the rules on which these depend."""
     asks = {head: [literal.atom for rule in of_head for literal in rule.body] for head, of_head in grouped(rules, attrgetter("head")).items()}
     own = [head for head in asks if relation(head)[0] in GAME]
     heads = {*own, *reached(asks, own)}

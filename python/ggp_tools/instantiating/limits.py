@@ -1,4 +1,4 @@
-"""The limits of the referee, the ground rules that it refuses, and rules that derive infinitely many instances."""
+"""Checks the limits of the referee, and finds ground rules that it refuses, and rules that derive infinitely many instances."""
 
 import re
 from collections import Counter
@@ -15,7 +15,7 @@ LARGE = {**MOST, "sentences": 262144, "atomic sentences": 262144, "bytes": 16777
 LARGE_NOTE = "large = true: this exceeds the usual limits of ggp_manager, which accepts it with --large"
 # The longest argument of a command on Linux, without the final NUL byte.
 MOST_IN_A_WORD = 131071
-# A sentence of the output, with the number of the sentence that it comes from.
+# A sentence of the output, with the number of the sentence of the description from which it was made.
 Numbered = tuple[int, Expression]
 # The name, the value and the limit of a quantity.
 Figure = tuple[str, int, int]
@@ -23,7 +23,7 @@ GOAL = re.compile(r"0|[1-9][0-9]?|100")
 PAST_GOAL = re.compile(r"[1-9][0-9]{2,}")
 # Derived terms of a state become `true`, and derived moves become `does`.
 TURNED = {("next", 1): ("true", 1), ("init", 1): ("true", 1), ("legal", 2): ("does", 2)}
-WITHOUT_HIGH_GOALS = "if one would hold at the end, the role gets the other goal that holds there; if there is none, the match has no goals"
+WITHOUT_HIGH_GOALS = "if a role would have such a goal value at the end, it gets its other goal value; if it has no other, the match has no goal values"
 
 
 def without_high_goals(rules: list[Rule]) -> tuple[list[Rule], int]:
@@ -41,7 +41,7 @@ def is_high(atom: Expression) -> bool:
 
 
 def refuse_faults(rules: list[Rule]) -> None:
-    """Refuses rules that the referee refuses: invalid goals, roles with conditions, and a game without roles."""
+    """Refuses everything that the referee refuses in rules: invalid goals, roles with conditions, and a game without roles."""
     for rule in rules:
         for atom in rule.atoms():
             if relation(atom)[0] == "goal" and not (isinstance(atom[2], str) and GOAL.fullmatch(atom[2])):
@@ -92,14 +92,14 @@ def dearest(costs: Counter[int], sentences: Sequence[Expression], lines: Sequenc
 
 
 def is_endless(rule: Rule) -> bool:
-    """Returns whether a rule derives a larger instance from each of its instances: its conditions match its own head with a variable replaced by a
-    larger term, and no other condition limits it."""
+    """Returns whether a rule derives a larger instance from each of its instances: its conditions match its own head with a variable
+    replaced by a larger term, and it has no other conditions."""
     asked = [literal for literal in rule.body if literal.positive and not literal.same]
     if not asked or any(literal.same for literal in rule.body):
         return False
     head, values = rule.head, {}
     key = TURNED.get(relation(head), relation(head))
-    # The variables of the derived instance are renamed, because the next instance has its own.
+    # The variables of the head get other names, because the conditions belong to the next instance, which has its own variables.
     head = put(head, {name: name + "'" for name in variables(head)})
     for literal in asked:
         if relation(literal.atom) != key or not all(fits(pattern, term, values) for pattern, term in zip(arguments_of(literal.atom), arguments_of(head))):

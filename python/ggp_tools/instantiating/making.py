@@ -22,15 +22,15 @@ FAR = 4
 # The maximum work of factoring a game to within the usual limits, about twenty seconds of processor time. It is counted in steps, so that the
 # result is the same on every machine.
 MOST_WORK = 400_000
-# After this many seconds, intermediate results are reported as they arise.
+# After this many seconds, intermediate results are reported immediately.
 SOON = 2
-# If a description has at most this many instances, its unchanged form is tried first: that form gives the best result, and is factored within
-# seconds.
+# If a description has at most this many instances, it is tried unchanged first, because this gives the best result, and factoring it takes
+# only seconds.
 FEW_INSTANCES = 1 << 16
 
 
 class Form(NamedTuple):
-    """The rules of a description in one form, the maximum number of instances, and notes."""
+    """One form of a description: its rules, the maximum number of instances, and notes."""
 
     rules: list[Rule]
     most: int
@@ -38,8 +38,8 @@ class Form(NamedTuple):
 
 
 def forms(rules: list[Rule], is_whole: bool, is_split: bool) -> list[Form]:
-    """Returns the unchanged description if it has few instances, then the one with split rules, then the unchanged one with any number of instances.
-    If only one of these is requested, returns only that one."""
+    """Returns the forms in the order in which they are tried: the unchanged description if it has few instances, the one with split rules,
+    and the unchanged one with any number of instances. If only one of these is requested, returns only that one."""
     whole, parts = Form(rules, gringo.MOST_INSTANCES), split(rules)
     if is_whole or len(parts) == len(rules):
         return [whole]
@@ -49,8 +49,8 @@ def forms(rules: list[Rule], is_whole: bool, is_split: bool) -> list[Form]:
 
 
 class Written(NamedTuple):
-    """A ground description: its sentences, each with the number of the sentence that it comes from, its text, the limited quantities, and the notes
-    at its top; the factored game, if any; and whether the large limits apply."""
+    """A ground description: its sentences, each with the number of the sentence from which it was made; its text; the limited quantities;
+    the notes at its top; the factored game, if any; and whether the large limits apply."""
 
     sentences: list
     text: str
@@ -78,8 +78,8 @@ class Written(NamedTuple):
 
 
 class Making:
-    """Grounds one description, within the usual limits of the referee or, if that takes too long or is impossible, within the large ones. With
-    `is_large` it does not try the usual limits."""
+    """Grounds one description within the usual limits of the referee. If that is impossible or takes too long, grounds it within the large
+    limits. With `is_large`, does not try the usual limits."""
 
     def __init__(self, text: str, seconds: int, folding_wanted: str, is_split: bool = False, is_large: bool = False) -> None:
         self.text, self.seconds, self.wanted, self.is_split, self.is_large = text, seconds, folding_wanted, is_split, is_large
@@ -180,13 +180,13 @@ class Making:
         return rules
 
     def know(self, words: str) -> None:
-        """Records a fact about a form. Reports the fact at once if the run has already taken long."""
+        """Stores a fact about a form. If the run has already taken long, also reports the fact at once."""
         self.known.append(words)
         if time.monotonic() - self.began > SOON:
             report(f"  after {time.monotonic() - self.began:.0f} s: {words}")
 
     def explained(self, why: str) -> str:
-        """Returns the reason with the facts that are known about the instances."""
+        """Returns the reason, with the known facts about the instances."""
         why = "; ".join([why, *self.known])
         rule = next(filter(limits.is_endless, self.rules), None)
         # Terms can only grow if the sentence has instances.
@@ -203,8 +203,9 @@ class Making:
     # ---- Output ----------------------------------------------------------------------------------
 
     def written(self, rules: list[Rule]) -> Written:
-        """Returns the ground description of rules: unchanged if it is within the usual limits, else factored. If factoring to within the usual limits
-        takes too much work, the description stays unchanged within the large limits, unless it is long and can be made shorter."""
+        """Returns the ground description of rules: unchanged if it is within the usual limits, otherwise factored. If factoring to within
+        the usual limits takes too much work, the description stays unchanged within the large limits, unless it is long and can be made
+        shorter."""
         plain = self.as_written([(rule.sentence, grounding.sentence_of(rule)) for rule in rules])
         can_stay = self.wanted == WHERE_NEEDED and not plain.past()
         is_short = self.is_large and not plain.is_long() or not plain.is_large

@@ -1,14 +1,15 @@
 """Unrolls cycles of sentences that depend on each other without negation, for example connected stones.
 
-Such sentences hold if they can be derived. Round 0 has the sentences that can be derived without the others of the cycle, and round n + 1 those that
-can be derived from the sentences of round n. In a cycle of k sentences, every derivable sentence is derived by round k - 1, because a derivation
-needs no sentence twice. In the last round the sentences keep their names. Sentences that no later round uses are left out. Two kinds of cycles need
-fewer rounds:
+Such sentences hold if they can be derived. Round 0 has the sentences that can be derived without the others of the cycle, and round n + 1
+those that can be derived from the sentences of round n. In a cycle of k sentences, every derivable sentence is derived by round k - 1,
+because a derivation needs no sentence twice. In the last round the sentences keep their names. Sentences that no later round uses are left
+out. Two kinds of cycles need fewer rounds:
 
-- A transitive relation with two arguments that is derived only from two halves, `r a c` from `r a b` and `r b c`. Each round doubles the length of
-  paths, so the logarithm of the number of terms is enough.
-- Sentences that each use one other sentence, with further conditions that do not depend on which one, for example that the cell has a stone. A
-shortest path has at most two sentences of each clique, because it could go directly from any of them to any other. """
+- A transitive relation with two arguments that is derived only from two halves, `r a c` from `r a b` and `r b c`. Each round doubles the
+  length of paths, so the logarithm of the number of terms is enough.
+- Sentences that are each derived from one other sentence, under further conditions that are the same whichever sentence this is, for
+  example that the cell has a stone. A shortest path has at most two sentences of each clique, because any sentence of a clique can be
+  derived directly from any other."""
 
 from collections.abc import Iterator
 from operator import attrgetter, itemgetter
@@ -38,8 +39,8 @@ def circles(rules: list[Rule]) -> list[list[Expression]]:
 
 
 def is_halved(circle: list[Expression], rules_for: RulesFor) -> bool:
-    """Returns whether the cycle is one relation with two arguments that is derived only from two halves, and from any two halves. If a rule had
-    further conditions, some halves would have no rule, and the few rounds would miss paths that go around them."""
+    """Returns whether the cycle is one relation with two arguments that is derived only from two halves, and from any two halves. If a rule
+    had further conditions, some pairs of halves would have no rule, and paths that avoid these pairs would need more rounds."""
     if any(isinstance(atom, str) or len(atom) != 3 or atom[0] != circle[0][0] for atom in circle):
         return False
     members = set(circle)
@@ -52,8 +53,8 @@ def is_halved(circle: list[Expression], rules_for: RulesFor) -> bool:
 
 
 def has_all_halves(circle: list[Expression], rules_for: RulesFor) -> bool:
-    """Checks all pairs of sentences of the cycle that are the halves of a third sentence: returns whether this sentence is always in the cycle, and
-    always has a rule that derives it from the two. Otherwise some paths do not consist of halves."""
+    """Checks all pairs of sentences of the cycle that are the halves of a third sentence. Returns whether this sentence is always in the
+    cycle, and always has a rule that derives it from the two. If not, some paths do not consist of halves."""
     begun, bodies, members = grouped(circle, itemgetter(1)), {}, set(circle)
     for half in circle:
         for other in begun.get(half[2], ()):
@@ -73,7 +74,7 @@ def halves(whole: Expression, first: Expression, second: Expression) -> bool:
 
 
 def last_round(circle: list[Expression], rules_for: RulesFor) -> int:
-    """Returns the number of the round after which nothing new is derived."""
+    """Returns the number of the last round in which a new sentence may be derived."""
     if is_halved(circle, rules_for):
         return (len({term for atom in circle for term in atom[1:]}) - 1).bit_length()
     steps = steps_of(circle, rules_for)
@@ -83,8 +84,8 @@ def last_round(circle: list[Expression], rules_for: RulesFor) -> int:
 
 
 def steps_of(circle: list[Expression], rules_for: RulesFor) -> dict[Expression, set[Expression]]:
-    """Returns for each sentence the sentences from which it can be derived. Returns None unless each rule uses exactly one sentence of the cycle,
-    with the same further conditions."""
+    """Returns, for each sentence, the sentences from which it can be derived. Returns None if a rule uses several sentences of the cycle,
+    or if the further conditions are not always the same."""
     members, steps = set(circle), {}
     for atom in circle:
         conditions = {}
@@ -127,7 +128,7 @@ def refuse_denial(circle: list[Expression], rules_for: RulesFor) -> None:
 
 
 def alive(circle: list[Expression], rules_for: RulesFor, last: int) -> list[set[Expression]]:
-    """Returns for each round the sentences that can be derived in it."""
+    """Returns, for each round, the sentences that can be derived in it."""
     members, rounds = set(circle), [set()]
     for _ in range(last + 1):
         below = rounds[-1]

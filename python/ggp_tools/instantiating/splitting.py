@@ -1,8 +1,9 @@
 """Splits rules that join independent parts before they are grounded.
 
-The number of instances of a rule is the product over all of its variables. A part of the body that shares only a few variables with the rest and the
-head becomes an auxiliary relation over these variables (`split1`, `split2` ..). Then the product becomes a sum. The meaning is the same, because the
-other variables of the part occur nowhere else. Relations that depend on themselves are not split."""
+The number of instances of a rule may be as large as the product of the numbers of values of all its variables. A part of the body that
+shares only a few variables with the rest and the head becomes an auxiliary relation over these variables (`split1`, `split2` ..). Then the
+product becomes a sum of smaller products. The meaning is the same, because the other variables of the part occur nowhere else. Relations
+that depend on themselves are not split."""
 
 import itertools
 from operator import attrgetter
@@ -11,12 +12,13 @@ from typing import NamedTuple
 from ggp_tools.kif import DIGITS, applied, atoms, fresh, put, relation, variables
 from ggp_tools.gdl import Literal, Relations, Rule
 
-# Longer bodies have too many parts to try all of them. Rules with fewer variables have no parts to split off.
+# Bodies with more literals have too many parts to try all of them. Rules with fewer variables have no parts to split off.
 MOST_LITERALS, FEW_VARIABLES = 13, 3
 
 
 class Part(NamedTuple):
-    """A split of a body: the indices of the literals that get a relation, those of the others, and the variables that both share."""
+    """A split of a body: the indices of the literals that move to a new relation, the indices of the others, and the variables that both
+    share."""
 
     cost: tuple
     inside: tuple
@@ -25,7 +27,7 @@ class Part(NamedTuple):
 
 
 def split(rules: list[Rule]) -> list[Rule]:
-    """Returns the rules after splitting all parts that are worth it."""
+    """Splits off all parts that reduce the number of variables of a rule. Returns the resulting rules."""
     circular = Relations(rules).circular
     word = fresh("split", {name for rule in rules for name in atoms(rule.atoms())}, DIGITS)
     splitting = Splitting(word)
@@ -63,7 +65,7 @@ class Splitting:
 
 
 def best_part(rule: Rule) -> Part | None:
-    """Returns the part whose split leaves the fewest variables in the larger rule, or None if no split reduces their number."""
+    """Returns the part whose split leaves the fewest variables in the larger of the two rules, or None if no split reduces their number."""
     named = [frozenset(variables(literal.atom)) for literal in rule.body]
     binding = [them if literal.positive and not literal.same else frozenset() for literal, them in zip(rule.body, named)]
     head, count = frozenset(variables(rule.head)), len(rule.body)

@@ -1,5 +1,5 @@
-"""Reads files with records of several games, finds the game of each record, checks it, and writes all records as tables, pages, facts, matches of
-ggp-base, or text similar to PGN.
+"""Reads files with records of several games, finds the game of each record, and checks each record. Writes the records as tables, pages,
+facts, matches of ggp-base, or text similar to PGN.
 
     ggp-records --rules RULES check [--explain] PILE ..
     ggp-records --rules RULES sqlite FILE PILE ..
@@ -10,28 +10,28 @@ ggp-base, or text similar to PGN.
     ggp-records --rules RULES facts [--log LOG ..] [--descriptions DIR] [--refereed-by TEXT] FILE PILE ..
     ggp-records log LOG ..
 
-A PILE is a file with a record on each line, as written by `season` and `run`, or `-` for standard input. It may be compressed by gzip. Lines of
-call logs are skipped. Options may come anywhere. RULES is a directory with the ground rules of the games, each in a file NAME.kif. A record
-belongs to the game that has its roles and its first state. --large allows large rules.
+A PILE is a file with a record on each line, as written by `season` and `run`, or `-` for standard input. It may be compressed by gzip.
+Lines of call logs are skipped. Options may come anywhere. RULES is a directory with the ground rules of the games, each in a file NAME.kif.
+A record belongs to the game that has its roles and its first state. --large allows large rules.
 
-`check` prints a line for each record: the file, the number of the line, the match, the game and the verdict, separated by tabs. With --explain, the
-lines below an unlawful record say what was expected and what was found.
+`check` prints a line for each record: the file, the number of the line, the match, the game and the verdict, separated by tabs. With
+--explain, the lines below an unlawful record say what was expected and what was found.
 
-`sqlite` and `csv` write tables of all records. `lawful` is 1 or 0, and `copy_of` has the number of an earlier record with the same bytes. The views
-`counted_players` and `counted_moves` of the database have each lawful record once, and no other records.
+`sqlite` and `csv` write tables of all records. `lawful` is 1 or 0, and `copy_of` has the number of an earlier record with the same bytes.
+The views `counted_players` and `counted_moves` of the database have each lawful record once, and no other records.
 
-`ggp-base`, `pgn` and `facts` write only lawful records, and report the others. `ggp-base` writes a file for each match, in the format of ggp-base;
-URL/NAME/ is the address of the game NAME. `pgn` writes the headers and the moves of each match, with an empty line between two matches. `facts`
-writes a line of JSON for each record, with facts that are not in the record. LOG, a file or a directory such as `logs` of a competition, has the
-times of messages. The DIR of --descriptions has the descriptions that were grounded, with the same file names as the rules. TEXT names the program
-that refereed the matches.
+`ggp-base`, `pgn` and `facts` write only lawful records, and report the others. `ggp-base` writes a file for each match, in the format of
+ggp-base; URL/NAME/ is the address of the game NAME. `pgn` writes the headers and the moves of each match, with an empty line between two
+matches. `facts` writes a line of JSON for each record, with facts that are not in the record. LOG is a log file, or a directory of logs
+such as `logs` of a competition; the times of messages come from it. --descriptions names the directory with the descriptions that were
+grounded; their file names are those of the rules. TEXT names the program that refereed the matches.
 
 `log` prints logs as text, an event on each line, with at most 200 bytes of each message and each answer.
 
-FILE, and the DIR for the output, must not exist yet. docs/RECORDS.md explains the verdicts. examples/records/README.md describes the formats of
+The output, FILE or DIR, must not exist yet. docs/RECORDS.md explains the verdicts. examples/records/README.md describes the formats of
 `ggp-base`, `pgn` and `facts`.
 
-The exit status is 0 if all records are lawful, 1 if not, 2 for a usage error, 3 if there is no verdict."""
+The exit status is 0 if all records are lawful, 1 if a record is not lawful, 2 for a usage error, and 3 if there is no verdict."""
 
 import argparse
 import collections
@@ -55,14 +55,14 @@ from ggp_tools.referee import LAWFUL, NoReferee, Referee, Unchecked, find_progra
 from ggp_tools.streams import report, say, status_of, whole
 
 COMMAND = "ggp-records"
-# The output of each action, and the options that only some actions have.
+# The name of the output of each action, and the options that only some actions have.
 OUTPUTS = {"check": None, "sqlite": "FILE", "csv": "DIR", "pages": "DIR", "ggp-base": "DIR", "pgn": "FILE", "facts": "FILE", "log": None}
 OWN = {"explain": ["check"], "log": ["ggp-base", "pgn", "facts"], "games": ["ggp-base"], "descriptions": ["facts"], "refereed_by": ["facts"]}
 NOT_LAWFUL = "not lawful: "
 
 
 def counting(lines: Iterable[Judged], counts: collections.Counter[str]) -> Iterator[Judged]:
-    """Yields the lines, and counts them by verdict, without the details of verdicts."""
+    """Yields the lines, and counts them by verdict, whatever the error of an unlawful record is."""
     for judged in lines:
         counts[judged.verdict.partition(":")[0]] += 1
         yield judged
@@ -87,7 +87,7 @@ def explained(judged: Judged) -> list[str]:
 
 
 def print_check(lines: Iterable[Judged], explains: bool) -> None:
-    """Prints a line for each record. If `explains` is set, this also explains why records are not lawful."""
+    """Prints a line for each record. If `explains` is set, also explains why records are not lawful."""
     for judged in lines:
         say("\n\t".join([row_of(judged), *map(shown, explained(judged) if explains else ())]))
 
@@ -103,18 +103,18 @@ def lawful_ones(lines: Iterable[Judged]) -> Iterator[tuple[int, Judged]]:
 
 def arguments(words: list[str]) -> argparse.Namespace:
     reader = argparse.ArgumentParser(COMMAND, description=__doc__, formatter_class=argparse.RawDescriptionHelpFormatter)
-    reader.add_argument("--program", metavar="FILE", help="ggp_manager, if it is not next to this program or on the path")
-    reader.add_argument("--rules", metavar="RULES", help="a directory with the games: ground rules in files NAME.kif")
+    reader.add_argument("--program", metavar="FILE", help="the path of ggp_manager, if it is neither next to this program nor in PATH")
+    reader.add_argument("--rules", metavar="RULES", help="the directory with the ground rules of the games, in files NAME.kif")
     reader.add_argument("--large", action="store_true", help="allow large rules")
     reader.add_argument("--jobs", type=whole(1, MOST_JOBS), default=len(os.sched_getaffinity(0)), metavar="N", help="at most N processes at a time")
     reader.add_argument("--explain", action="store_true", help="`check`: explain why a record is not lawful")
     reader.add_argument("--log", action="append", metavar="LOG", help="`ggp-base`, `pgn`, `facts`: a log of matches, or a directory of logs; may be given several times")
-    reader.add_argument("--games", metavar="URL", help="`ggp-base`: where the games are published: the game NAME at URL/NAME/")
-    reader.add_argument("--descriptions", metavar="DIR", help="`facts`: the descriptions that were grounded, by the same names")
+    reader.add_argument("--games", metavar="URL", help="`ggp-base`: the address of the published games: the game NAME is at URL/NAME/")
+    reader.add_argument("--descriptions", metavar="DIR", help="`facts`: the directory of the descriptions that were grounded; the files have the names of the rules")
     text = "`facts`: the program that refereed the matches (default: VERSION next to RULES)"
     reader.add_argument("--refereed-by", metavar="TEXT", help=text)
     reader.add_argument("action", choices=OUTPUTS, help="what to do")
-    reader.add_argument("files", metavar="FILE", nargs="*", help="the output, unless it is standard output; then each PILE, or each LOG of `log`")
+    reader.add_argument("files", metavar="FILE", nargs="*", help="the output, except for `check` and `log`; then each PILE or, for `log`, each LOG")
     parsed = reader.parse_intermixed_args(words)
     for option, actions in OWN.items():
         if getattr(parsed, option) and parsed.action not in actions:
@@ -137,7 +137,7 @@ def report_others(count: int) -> None:
 
 
 def print_log(paths: list[str]) -> int:
-    """Prints logs as text. Returns the exit status, which is 1 if a line is not an event."""
+    """Prints logs as text. Returns 1 if a line is not an event, otherwise 0."""
     others = 0
     for line in lines_of_logs(paths):
         event = event_of(line)
@@ -162,7 +162,7 @@ def perform(given: argparse.Namespace) -> int:
     for error in refused:
         report(f"{COMMAND}: skipped: {error}")
     if not games:
-        report(f"{COMMAND}: {given.rules} has no rules of a game, in a file NAME.kif")
+        report(f"{COMMAND}: {given.rules} has no file NAME.kif with the ground rules of a game")
         return 3
     lines = counting(judged_lines(referee, games, pile, given.jobs), counts)
     match given.action:

@@ -18,9 +18,9 @@ from ggp_tools.records.record import ACCOUNT_LINE, LONGEST_RECORD, TOO_LONG, NoR
 from ggp_tools.referee import LAWFUL, BadRules, Referee
 from ggp_tools.streams import opened
 
-# One process of the referee checks about this many bytes of records.
+# The referee checks records in batches of about this many bytes.
 BATCH = 4 << 20
-# The number of batches that may wait while others are being checked.
+# The maximum number of batches that wait while others are being checked.
 WAITING = 2
 SURROGATE = re.compile("[\ud800-\udfff]")
 NO_GAME, NO_RECORD = "no game has its roles", "no record: "
@@ -28,7 +28,8 @@ NO_GAME, NO_RECORD = "no game has its roles", "no record: "
 
 @dataclass(frozen=True, eq=False)
 class KnownGame:
-    """A game of the directory of rules. `name` is the name of the file, `rules` has the rules for the interpreter, and `first` is the first state."""
+    """A game in the directory of rules. `name` is the name of the file, `rules` has the rules for the interpreter, and `first` is the first
+    state."""
 
     name: str
     path: str
@@ -121,7 +122,6 @@ def candidates(record: dict, games: list[KnownGame]) -> list[KnownGame]:
 
 
 def line_of(file: str, number: int, data: bytes) -> Line:
-    """Parses a line."""
     if len(data) > LONGEST_RECORD:
         return Line(file, number, b"", None, TOO_LONG)
     try:
@@ -132,7 +132,7 @@ def line_of(file: str, number: int, data: bytes) -> Line:
 
 
 class Pile:
-    """The lines of some files. It counts skipped lines."""
+    """The lines of some record files. Skipped lines are counted."""
 
     def __init__(self, files: Iterable[str]) -> None:
         self.files, self.skipped = list(files), 0
@@ -156,7 +156,7 @@ class Pile:
 
 
 def judged_batch(referee: Referee, games: list[KnownGame], batch: list[Line]) -> list[Judged]:
-    """Returns the verdict on each line. If a record may belong to several games, it is lawful if it is lawful for one of them."""
+    """Returns the verdict on each line. A record that may belong to several games is lawful if it is lawful for one of them."""
     tries = [[] if line.record is None else candidates(line.record, games) for line in batch]
     judged = [Judged(line, None, NO_RECORD + line.said if line.record is None else NO_GAME) for line in batch]
     for turn in range(max(map(len, tries), default=0)):

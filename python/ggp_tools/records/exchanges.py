@@ -1,4 +1,4 @@
-"""The messages of a match that follow from its record."""
+"""Derives the messages of a match from its record."""
 
 from collections.abc import Iterator
 
@@ -8,14 +8,14 @@ from ggp_tools.records.record import ABORTED, COMPLETED
 
 
 class Exchanges:
-    """The messages of a match, as far as they follow from its record: their texts, and which answers were broken."""
+    """The part of a match's messages that follows from its record: the texts, and which answers were broken."""
 
     def __init__(self, record: dict) -> None:
         self.record, self.players = record, record["players"]
         joints = ["NIL", *(f"({' '.join(moves)})" for moves in record["moves"])]
         self.plays = [self.text("PLAY", joint) for joint in joints]
         completed, aborted = {"STOP": self.text("STOP", joints[-1])}, {"ABORT": self.text("ABORT")}
-        # The last message of the match by its kind. It is empty if the match is not over.
+        # By its kind, the text of the last message. If the match is not over, there is none.
         self.ends = completed if record["phase"] in COMPLETED else aborted if record["phase"] in ABORTED else {}
         errors = [[turn[role] for turn in record["errors"]] for role in range(len(self.players))]
         # The number of turns in which each role was asked for a move. A retired role stays retired.
@@ -25,11 +25,11 @@ class Exchanges:
         return f"({kind} {self.record['matchId']}{' ' * bool(joint)}{joint})"
 
     def last(self, role: int) -> int:
-        """Returns the number of the last message to a role, after START, each PLAY, and STOP or ABORT."""
+        """Returns the number of the last message to a role. A role gets START, each PLAY, and STOP or ABORT."""
         return 1 + self.asked[role] + len(self.ends)
 
     def has(self, role: int, number: int, kind: str, known: int) -> bool:
-        """Returns whether the match has this message, judging by the message's hash."""
+        """Returns whether the match has this message. The text is compared by its hash."""
         if role >= len(self.players) or not 1 <= number <= self.last(role):
             return False
         if (kind == "START") != (number == 1) or (kind in self.ends) != (number == self.asked[role] + 2):
@@ -38,8 +38,8 @@ class Exchanges:
         return known == message_sum(self.players[role], kind, text)
 
     def broken(self) -> Iterator[tuple[int, int | None]]:
-        """Yields the role and the number of each message whose answer was broken. The number of an ABORT that was asked for is not known, because a
-        PLAY of the open turn may have been sent before it."""
+        """Yields the role and the number of each message whose answer was broken. If an abort was asked for, the number of its ABORT is not
+        known, because a PLAY of the open turn may have been sent before it."""
         for role in range(len(self.players)):
             marks = [self.record["startMarks"][role], *(turn[role] for turn in self.record["errors"][: self.asked[role]])]
             yield from ((role, number) for number, mark in enumerate(marks, 1) if mark == BROKEN)
@@ -48,5 +48,5 @@ class Exchanges:
 
 
 def broken_answers(exchanges: Exchanges, whys: dict[tuple[int, int], str | None]) -> list[dict[str, object]]:
-    """Returns the broken answers, each with its reason, which is None if no log has it."""
+    """Returns the broken answers, each with its reason, or with None if no log has the reason."""
     return [{"role": role, "message": number, "why": whys.get((role, number)) or None} for role, number in exchanges.broken()]

@@ -23,9 +23,10 @@ from ggp_tools.streams import STANDARD_INPUT, Ended, opened, report, say, status
 COMMAND = "ggp-explain-record"
 ABOUT = (
     "Explains why a record is not lawful: what was expected, and what was found. If the record is lawful, it prints `lawful`. Otherwise it prints "
-    "the error in the referee's words, and an explanation below it. Turns are counted from 1, and roles have their names. An interpreter that shares "
-    "no code with the referee computes what was expected. If the interpreter finds a different error first, this is reported. With --lines each line "
-    "is a record. Those that are not lawful are printed, with the number of the line and an explanation. Lines of call logs are skipped."
+    "the error in the referee's words, and an explanation below it. Turns are counted from 1, and roles are given by name. An interpreter that "
+    "shares no code with the referee computes what was expected. If the interpreter finds a different error first, the command reports this. With "
+    "--lines, each line is a record. The command prints those that are not lawful, with the number of the line and an explanation, and skips the lines "
+    "of call logs."
 )
 STATUS = "status 0: all records are lawful. 1: at least one is not. 2: usage error. 3: there is no verdict."
 MOST_LISTED, MOST_OF_TEXT = 20, 400
@@ -41,7 +42,7 @@ def listed(texts: Sequence[str]) -> str:
 
 
 def end_words(phase: str, cause: str | None, names: Sequence[str]) -> str:
-    """Describes a phase with its cause. If the cause has the number of a role, the name of the role follows."""
+    """Describes a phase with its cause. If the cause contains the number of a role, the name of the role is added."""
     number = (cause or "").partition(" ")[2]
     return f"phase {phase}, cause {cause or 'null'}" + (f" (the role {names[int(number)]})" if number else "")
 
@@ -57,12 +58,12 @@ WHY = {
 }
 
 
-# An error as `verify` prints it, and the lines that explain it.
+# An error in the words of `verify`, and the lines that explain it.
 Found = tuple[str, ...]
 
 
 class Replay(Match):
-    """Replays a record that has the right shape in the interpreter."""
+    """Replays a record in the interpreter. The record must have the right shape."""
 
     def __init__(self, game: Game, record: dict, names: Sequence[str]) -> None:
         super().__init__(game, record["matchId"], record["startClock"], record["playClock"], record["players"])
@@ -159,7 +160,7 @@ class Replay(Match):
         if recorded in ends:
             return None
         known = {"starting": f"a START mark is missing after {counted(len(self.moves), 'turn')}", "playing": "the match can go on"}.get(phase) or self.why(cause)
-        lines = [", or ".join(end_words(*end, self.names) for end in group) or "other marks or turns: no phase has these" for group in (ends, [recorded])]
+        lines = [", or ".join(end_words(*end, self.names) for end in group) or "other marks or turns: no phase allows these" for group in (ends, [recorded])]
         sentence = f"At the end {known}, and {count} of {counted(len(self.names), 'role')} {'has' if count == 1 else 'have'} an end mark."
         return ("end", sentence, f"expected: {lines[0]}", f"found: {lines[1]}")
 
@@ -189,26 +190,28 @@ def explanation(word: str, game: Game, data: bytes) -> list[str]:
 
 
 def judged(program: str, words: list[str], data: bytes, count: int = 1) -> list[str | None]:
-    """Returns, for each record, the error that the referee reports, or None if the record is lawful. None of the records belongs to a call log."""
+    """Returns, for each record, the error that the referee reports, or None if the record is lawful. The data must not contain call
+    logs."""
     try:
         run = subprocess.run([program, "verify", JSON, *words], input=data, capture_output=True)
     except (OSError, ValueError) as why:
         raise Ended(f"cannot run {program}: {getattr(why, 'strerror', None) or 'its name has a NUL byte'}", 3) from None
     faults = [verdict.get("fault") for verdict in read_objects(run) or ()]
     if len(faults) != count or run.returncode != int(any(faults)):
-        raise Ended(run.stderr.decode("ascii", "replace").strip() or f"{program} gives no verdict, and its status is {run.returncode}", 3)
+        raise Ended(run.stderr.decode("ascii", "replace").strip() or f"{program} gave no verdict: it ended with status {run.returncode}", 3)
     return faults
 
 
 def read(name: str, most: int) -> bytes:
-    """Reads a file, but at most one byte more than the referee accepts."""
+    """Reads a file, but no more than one byte above the referee's limit."""
     with opened(name) as file:
         return file.read(most + 1)
 
 
 @contextlib.contextmanager
 def rules_of(asked_for: argparse.Namespace) -> Iterator[tuple[list[str], Callable[[], Game]]]:
-    """Yields the option that names the game to the referee, and a function that makes the game once the referee has accepted it."""
+    """Yields the option that names the game to the referee, and a function that makes the game; it is called after the referee has accepted
+    the rules."""
     if asked_for.countdown is not None:
         yield [f"--countdown={asked_for.countdown}"], functools.cache(lambda: Game(countdown(asked_for.countdown)))
         return

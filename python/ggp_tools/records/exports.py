@@ -1,5 +1,5 @@
-"""Writes records in three formats: pages with an index; matches of ggp-base, each a JSON object in its own file; and text similar to PGN, with
-headers for each match and a line for each turn. Times come from logs. examples/records/README.md describes the formats."""
+"""Writes records in three formats: pages with an index; matches of ggp-base, each as a JSON object in a separate file; and text similar to
+PGN, with headers for each match and a line for each turn. Times come from logs. examples/records/README.md describes the formats."""
 
 import hashlib
 import json
@@ -16,7 +16,7 @@ from ggp_tools.records.show import page_of, winner_words
 from ggp_tools.records.tables import made_whole
 from ggp_tools.templating import page
 
-# The characters that are replaced in the name of a file, and in the name of a header.
+# Characters that are replaced: in the name of a file, and in the name of a header.
 OTHERS, NOT_IN_HEADERS = re.compile(r"[^A-Za-z0-9._-]"), re.compile("[^A-Za-z0-9_]")
 LONGEST_ID = 64
 
@@ -27,7 +27,7 @@ def file_name(number: int, match_id: str, ending: str) -> str:
 
 
 def index_row(judged: Judged, record: dict | None, name: str) -> dict[str, object]:
-    """Returns the row for a line. The row links to the page with this name if the line has the shape of a record."""
+    """Returns the index's row for a line. If the line has the shape of a record, the row links to the page with this name."""
     row = {"name": judged.line.match_id or f"line {judged.line.number}", "game": judged.game.name if judged.game else "", "page": ""}
     row |= {"phase": "", "turns": "", "verdict": judged.verdict, "is_lawful": judged.is_lawful}
     if record:
@@ -52,13 +52,13 @@ def write_pages(folder: pathlib.Path, lines: Iterable[Judged]) -> None:
 
 # ---- ggp-base
 
-# The values of ggp-base for a match without a preview, and for an unknown start time, which must be a number.
+# In ggp-base's format, the value for a match without a preview, and the number that replaces an unknown start time.
 NO_PREVIEW, UNKNOWN = -1, 0
 
 
 def times_of(found: list[Beginning], turns: int) -> tuple[int, list[int]]:
-    """Returns when a match began and when each state was reached, in milliseconds since 1970. Times are unknown if the logs lack some of them, or
-    have several matches with this id."""
+    """Returns when a match began and when each state was reached, in milliseconds since 1970. If several matches in the logs have this id,
+    or the logs lack some of the times, the times are unknown."""
     if len(found) != 1:
         return UNKNOWN, []
     times = [found[0].began or UNKNOWN, *(found[0].turns.get(turn, UNKNOWN) for turn in range(1, turns + 1))]

@@ -1,6 +1,6 @@
-"""Writes facts about a match that its record does not have, as a line of JSON: the checksums of the record and of the rules, and the referee. A log
-adds the time of the match, how long each message took, and why an answer was broken. examples/records/README.md describes the keys. They mean the
-same as in `matches.jsonl` of a competition."""
+"""Writes facts about each match that its record does not contain, as a line of JSON: the checksums of the record and of the rules, and the
+referee. If there is a log, the facts include the time of the match, the duration of each message, and why an answer was broken.
+examples/records/README.md describes the keys. They mean the same as in `matches.jsonl` of a competition."""
 
 import errno
 import json
@@ -22,8 +22,8 @@ TWO_RECORDS, TWO_LOGS = "several matches have this id", "several matches of the 
 
 
 def description_sums(rules: str, descriptions: str | None) -> dict[str, str]:
-    """Returns the checksums of the descriptions that were grounded, by game: from the files in a directory, or else from the file that a competition
-    has next to its rules."""
+    """Returns the checksums of the descriptions that were grounded, by game. They come from the files of a directory or, without a
+    directory, from the file that a competition has next to its rules."""
     if descriptions is not None:
         return {file.stem: sum_of_file(file) for file in sorted(pathlib.Path(descriptions).iterdir()) if file.suffix == ".kif" and file.is_file()}
     path = pathlib.Path(rules, DESCRIPTIONS)
@@ -41,12 +41,12 @@ def version_beside(rules: str) -> str | None:
 
 
 def messages_of(exchanges: Exchanges, logged: Beginning) -> list[list[list | None]] | str:
-    """Returns the messages of each role. Each is its kind and its milliseconds, or None if its line is missing. If the log does not belong to the
-    record, returns the reason."""
+    """Returns the messages of each role, each as its kind and its milliseconds, or as None if the log lacks its line. If the log does not
+    belong to the record, returns the reason instead."""
     messages: list[list[list | None]] = [[None] * exchanges.last(role) for role in range(len(exchanges.players))]
     for role, number, kind, milliseconds, known in logged.messages():
         if not exchanges.has(role, number, KINDS[kind], known):
-            return f"its log is that of another match: role {role}, message {number}"
+            return f"its log belongs to another match: role {role}, message {number}"
         messages[role][number - 1] = [KINDS[kind].lower(), milliseconds]
     for role, number in exchanges.broken():
         if number and messages[role][number - 1] and (role, number) not in logged.broken:
@@ -59,7 +59,7 @@ class Facts:
 
     def __init__(self, checked_by: str, refereed_by: str | None, descriptions: dict[str, str], logs: MatchLogs) -> None:
         self.checked_by, self.refereed_by, self.descriptions, self.logs = checked_by, refereed_by, descriptions, logs
-        # The checksum of the first record of each id.
+        # The checksum of the first record with each id.
         self.sums: dict[str, str] = {}
         self.faults: dict[str, str] = {}
 
@@ -100,7 +100,7 @@ class Facts:
         }
 
     def without_log(self, data: bytes) -> bytes:
-        """Returns the line of a record. If several matches have its id, the line has no values from a log."""
+        """Returns the line of a record. If several matches have its id, the values from logs are removed."""
         values = json.loads(data)
         if self.faults.get(values["id"]) != TWO_RECORDS:
             return data
@@ -113,7 +113,7 @@ def line_of(found: dict[str, object]) -> bytes:
 
 
 def write_facts(path: pathlib.Path, lawful: Iterable[tuple[int, Judged]], facts: Facts) -> None:
-    """Writes a line for each record. Waits until the end, because only then all duplicate ids are known."""
+    """Writes a line for each record. The file appears only at the end, because duplicate ids are not known before."""
     with made_whole(path) as made:
         first = made.with_name("first")
         with open(first, "wb") as file:

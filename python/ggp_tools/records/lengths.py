@@ -1,4 +1,4 @@
-"""Computes the maximum length of a record, and reads only some states of records that are too long to be parsed as a whole."""
+"""Computes the maximum length of a record. If a record is too long to be parsed as a whole, reads only some of its states."""
 
 import functools
 import json
@@ -6,11 +6,12 @@ from collections.abc import Iterator
 
 from ggp_tools.kif import Expression, expressions, head_of, spelled
 
-# Most games cannot have longer records, and the others rarely do.
+# The records of most games cannot be longer than this, and those of other games rarely are.
 USUAL_RECORD = 16 << 20
 # The longest call log that `replay` accepts.
 LONGEST_ACCOUNT = 256 << 20
-# The maximum number of turns. In total, the answers of a player may have this many bytes beyond 64 for each answer, or beyond the longest legal move.
+# The maximum number of turns. The normal length of an answer is USUAL_ANSWER, or the length of the longest legal move. In total, the
+# answers of a player may have BUDGET bytes more than that.
 MOST_TURNS, BUDGET, USUAL_ANSWER = 10_000, 1 << 20, 64
 # The bytes before and after the states of a record. No string contains these bytes, because quotes are escaped.
 STATES, AFTER_STATES = b'"states":[', b'],"strikes":'
@@ -31,7 +32,7 @@ def longest_record(rules: bytes) -> int:
     state = sum(text_length(term) for term in {head[1] for head in heads if head[0] in ("init", "next")})
     move = max((text_length(head[2]) for head in heads if head[0] == "legal"), default=0)
     roles = sum(head[0] == "role" for head in heads)
-    # Each byte of an answer may take two bytes in a string, and the canonical text may have more spaces than the answer.
+    # In a string, each byte of an answer may take two bytes, and the canonical text may have more spaces than the answer.
     turn = state + roles * (move + 4 * max(move, USUAL_ANSWER))
     return USUAL_RECORD + (MOST_TURNS + 1) * turn + roles * 4 * BUDGET
 
@@ -43,7 +44,7 @@ def without_states(data: bytes) -> bytes:
 
 
 def states_in(data: bytes, most: int | None = None) -> Iterator[list[str]]:
-    """Yields the states of a record that fit into this many bytes."""
+    """Yields as many of a record's first states as fit into this many bytes."""
     begin = data.find(STATES) + len(STATES)
     text, index = data[begin : None if most is None else begin + most].decode("latin-1"), 0
     decoder = json.JSONDecoder()

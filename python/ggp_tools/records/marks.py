@@ -1,5 +1,5 @@
-"""Chooses what a board shows for each label: a glyph for known pieces, stones, marks and cards, else the label itself, shortened if it is long.
-Different labels always look different."""
+"""Chooses how a board shows each label: as a glyph for known pieces, stones, marks and cards, otherwise as the label itself, shortened if
+it is long. Different labels always look different."""
 
 import re
 from collections import Counter
@@ -7,10 +7,10 @@ from collections.abc import Iterable
 from dataclasses import dataclass
 
 LONGEST = 6
-# A long text is shortened to five letters: this many at its end, and the others at its beginning. The numbers are tried in this order.
+# A long text is shortened to five letters: this many at its end, and the others at its beginning. These numbers are tried in this order.
 TAILS = (2, 3, 1, 4)
 CUT = "\N{HORIZONTAL ELLIPSIS}"
-# Without this some browsers draw a pawn as an emoji.
+# Without this character, some browsers draw a pawn as an emoji.
 AS_TEXT = "\N{VARIATION SELECTOR-15}"
 CHESS = {
     "king": "\N{BLACK CHESS KING}", "queen": "\N{BLACK CHESS QUEEN}", "rook": "\N{BLACK CHESS ROOK}", "bishop": "\N{BLACK CHESS BISHOP}",
@@ -34,7 +34,7 @@ COMPOUND = re.compile(rf"({'|'.join(SIDES)})[-_]?({'|'.join(sorted(PIECES))})")
 
 @dataclass(frozen=True)
 class Mark:
-    """The content of a cell: a text, and the side that it belongs to, if any. Glyphs are drawn larger than words."""
+    """The content of a cell: a text, and the side to which it belongs, if any. Glyphs are larger than words."""
 
     text: str
     side: str = ""
@@ -46,7 +46,7 @@ class Mark:
 
 
 def card_of(words: list[str]) -> Mark | None:
-    """Returns the card of a rank and a suit, in either order."""
+    """Returns the card with this rank and this suit, which may be in either order."""
     for rank, suit in (words, words[::-1]) if len(words) == 2 else ():
         suit = suit.removesuffix("s")
         if rank in RANKS and suit in SUITS:
@@ -98,7 +98,7 @@ def glyphs_of(labels: set[str]) -> dict[str, Mark]:
 
 
 def common_length(texts: list[str]) -> int:
-    """Returns the length of the common prefix."""
+    """Returns the length of the common prefix of these texts."""
     first, last = min(texts), max(texts)
     return next((index for index, (letter, other) in enumerate(zip(first, last)) if letter != other), len(first))
 
@@ -115,7 +115,8 @@ def middles(texts: list[str]) -> dict[str, str]:
 
 
 def shortened(texts: Iterable[str]) -> dict[str, str]:
-    """Shortens long texts: to their beginning and end if these differ, else to their middle, else to a number."""
+    """Shortens long texts. Their beginnings and ends are used if these differ, otherwise their middles. If these do not differ either,
+    numbers are used."""
     all_texts = sorted(set(texts))
     shown = {text: text for text in all_texts if len(text) <= LONGEST}
     long = [text for text in all_texts if len(text) > LONGEST]

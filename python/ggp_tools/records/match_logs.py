@@ -1,4 +1,5 @@
-"""Reads matches from logs: the hash and the duration of each message, and why an answer was broken. Logs may be large, so nothing else is kept."""
+"""Reads matches from logs: the hash and the duration of each message, and why an answer was broken. Logs may be large, so nothing else of
+them is stored."""
 
 import itertools
 import pathlib
@@ -13,14 +14,14 @@ from ggp_tools.match_log import event_of, whole_lines
 from ggp_tools.moments import moment_at
 from ggp_tools.streams import opened
 
-# The names of logs of matches that do not count in a competition.
+# Matches the names of logs that do not count in a competition.
 SET_ASIDE = re.compile(r".*\.(refused|unchecked|differs)(\.\d+)?")
-# If an id has this many different beginnings, it is not unique.
+# An id with this many different beginnings is not unique.
 SEVERAL = 2
 
 
 def files_of(path: str) -> list[pathlib.Path]:
-    """Returns the file, or all files of a directory except those that were set aside."""
+    """If the path is a file, returns it. If it is a directory, returns all files in it, except those that were set aside."""
     given_path = pathlib.Path(path)
     if not given_path.is_dir():
         return [given_path]
@@ -83,7 +84,7 @@ class Beginning:
             self.turns[message.turn()] = max(message.time + message.ms, self.turns.get(message.turn(), 0))
 
     def is_over(self) -> bool:
-        """Returns whether there may be a record. A match has no record if the referee ran out of a resource."""
+        """Returns whether the match may have a record. It has none if the referee ran out of a resource."""
         return self.has_end and not self.is_short
 
     def messages(self) -> Iterator[tuple[int, ...]]:
@@ -100,7 +101,7 @@ class Beginning:
         return messages
 
     def times(self) -> tuple[str | None, str | None, str | None]:
-        """Returns when it began and ended, and its host."""
+        """Returns when the run began, when it ended, and on which host."""
         began = None if self.began is None else moment_at(self.began / 1_000)
         return began, moment_at(self.ended / 1_000) if self.ended else None, self.host
 
@@ -150,6 +151,6 @@ class MatchLogs:
                 self.others += 1
 
     def of(self, match_id: str) -> list[Beginning]:
-        """Returns the match with this id, or several matches if it is not known which one is meant."""
+        """Returns the match with this id. If it is not known which of several matches is meant, returns all of them."""
         unfinished, over = self.found.get(match_id, ([], []))
         return over or unfinished

@@ -18,18 +18,19 @@ COMPLETED, ABORTED = ("stopping", "finished"), ("aborting", "aborted")
 PHASES = ("starting", "playing", *COMPLETED, *ABORTED)
 ERRORS = ("", "TO", "CE", "RT", "IL ?")
 CAUSE = re.compile(r"(asked|toolong|allretired)|(nolegal|nogoal) (0|[1-9][0-9]?)")
-# The referee uses the same format. No reply ends like a record, so a cut line to which a record was appended does not match.
+# A line of a call log, in the form that the referee writes and reads. If a record was appended to a line that was cut off, the result does
+# not match, because no reply ends like a record.
 ACCOUNT_LINE = re.compile(rb"[0-9]+\t(?:open|strict|next|submit|miss|query|abort)(?: [^\t]*)?\t[^\t]*[0-9A-Za-z)]")
 LONGEST_EXPRESSION, MOST_OF_VALUE, MOST_OF_ROLES = 8_192, 80, 1_000
-# The JSON parser is recursive, and more than ROOM calls overflow its stack. Records are nested three lists deep. The recursion limit applies to all
-# threads, so it is lowered only if a command has raised it above ROOM; such commands have no other threads.
+# The JSON parser is recursive, and more than ROOM calls overflow its stack. Records are nested three lists deep. The recursion limit
+# applies to all threads, so it is lowered only if a command has raised it above ROOM. Such a command has no other threads.
 ROOM, MOST_CALLS = 20_000, 1_000
 
 # ---- JSON
 
 # A record may be followed by another one, or by a line of its call log.
 FOLLOWS = re.compile(r"\{|[0-9]+\t[^\t\n]+\t")
-# The beginning of each record, and the end of one that was cut within a word or a number.
+# The beginning of each record, and the last characters of a record that was cut off within a word or a number.
 BEGIN = b'{"cause":'
 CUT_WORD = re.compile(r"-|t(ru?)?|f(a(ls?)?)?|n(ul?)?")
 # The messages of Python's JSON parser, and our messages for them.
@@ -41,11 +42,10 @@ JSON_WORDS = {
 
 
 class NoRecord(Refused):
-    """Why a text is not a record."""
+    """The reason why a text is not a record."""
 
 
 def parsed(data: bytes | str) -> object:
-    """Parses JSON."""
     most = sys.getrecursionlimit()
     try:
         sys.setrecursionlimit(MOST_CALLS if most > ROOM else most)
@@ -73,7 +73,7 @@ def json_lines(data: bytes) -> list[str]:
         return lines + cut_lines(why.doc, why)
     except UnicodeDecodeError as why:
         line, column = data.count(b"\n", 0, why.start) + 1, why.start - data.rfind(b"\n", 0, why.start)
-        return [f"line {line}, byte {column} of it: it is not UTF-8"]
+        return [f"line {line}, byte {column}: it is not UTF-8"]
     except RecursionError:
         pass
     return ["a value is nested more than 127 deep, a number is invalid or outside the range of binary64, or a surrogate pair is incomplete"]
@@ -83,7 +83,7 @@ def cut_lines(doc: str, why: json.JSONDecodeError) -> list[str]:
     """Explains which part of a record is missing."""
     text, again = doc.rstrip(), doc.find(BEGIN.decode(), 1)
     if doc.startswith("{") and again > 0:
-        return [f"Another record begins at byte {again + 1}: the one before it was cut off, for example because a record was appended to an unfinished line."]
+        return [f"Another record begins at byte {again + 1}: the record before it was cut off, for example because a record was appended to an unfinished line."]
     is_cut = why.pos >= len(text) or why.msg.startswith("Unterminated string") or CUT_WORD.fullmatch(text, why.pos)
     if text.startswith("{") and is_cut:
         return ["The text ends within the record: its end was cut off, or it is on several lines although each line must be a record."]
@@ -94,7 +94,7 @@ def cut_lines(doc: str, why: json.JSONDecodeError) -> list[str]:
 
 # ---- the keys of a record
 
-# Checks the type of a value.
+# The type of a function that checks the type of a value.
 Kind = Callable[[object], bool]
 
 
@@ -111,7 +111,7 @@ def is_text_or_null(value: object) -> bool:
 
 
 def is_list(value: object, is_member: Kind, lengths: list[int] | None = None) -> bool:
-    """Returns whether a value is a list of such members, of one of these lengths if any are given."""
+    """Returns whether a value is a list of members that `is_member` accepts. If `lengths` is given, its length must be one of them."""
     return isinstance(value, list) and all(map(is_member, value)) and (lengths is None or len(value) in lengths)
 
 
@@ -136,7 +136,7 @@ def is_error(value: object) -> bool:
 
 MARKS, CLOCK = 'for each role a mark: null, "", "TO" or "CE"', "a whole number of seconds from 1 to 86,400"
 NAME = "1 to 64 letters, digits, `-`, `_` and `.`"
-# The keys of a record: a check of the type, as far as a page needs it, and a description of the value.
+# For each key of a record: a check of the value's type, as strict as a page needs, and a description of the value.
 KEYS: dict[str, tuple[Kind, str]] = {
     "cause": (is_text_or_null, 'null, "asked", "toolong", "allretired", "nolegal R" or "nogoal R", where R is the number of a role, counted from 0'),
     "endMarks": (list_of(is_text_or_null), MARKS),
@@ -157,7 +157,7 @@ KEYS: dict[str, tuple[Kind, str]] = {
     "strikes": (is_whole, "a whole number from 0 to 255, because the record has version 2"),
     "version": (lambda value: is_whole(value) and value in (1, 2), "1 or 2"),
 }
-# For lists by turn, the first wrong member is reported.
+# In lists by turn, only the first wrong member is reported.
 IS_ONE = {"errors": is_error, "moves": is_text, "states": is_text}
 
 
@@ -200,7 +200,8 @@ def check_lengths(record: dict, is_cut: bool) -> None:
 
 
 def checked_record(record: object, is_cut: bool = False) -> dict:
-    """Checks the shape of a record, as far as a page needs it, and sets a missing version to 1. A truncated record lacks its last states."""
+    """Checks whether a record has the shape that a page needs. If the record has no version, sets the version to 1. A truncated record
+    lacks its last states."""
     if not isinstance(record, dict):
         raise NoRecord("it is JSON, but not an object")
     record.setdefault("version", 1)
@@ -218,8 +219,8 @@ def checked_record(record: object, is_cut: bool = False) -> dict:
 
 
 def read_record(data: bytes) -> dict:
-    """Parses a record. If it is longer than 16 MiB, `states` has only the first states, as many as fit into 16 MiB."""
-    # The newline is not part of the record.
+    """Parses a record. If it is longer than 16 MiB, `states` has only the first states that fit into 16 MiB."""
+    # The newline at the end is not part of the record.
     if len(data) - data.endswith(b"\n") <= LONGEST_RECORD:
         return checked_record(parsed(data))
     rest = without_states(data)
@@ -232,17 +233,19 @@ def read_record(data: bytes) -> dict:
 
 
 def record_sum(data: bytes) -> str:
-    """Returns the checksum of the line of a record, with one LF at its end."""
+    """Returns the checksum of a record's line, with one LF at its end."""
     return hashlib.sha256(data.rstrip(b"\r\n") + b"\n").hexdigest()
 
 
 def numbered_lines(lines: BinaryIO) -> Iterator[tuple[int, bytes]]:
-    """Yields the lines of a file with their numbers. A line that is too long is cut, to just above the limit."""
+    """Yields the lines of a file with their numbers. Of a line that is too long, only the beginning is returned, which is just longer than
+    the limit."""
     return ((number, data.rstrip(b"\r\n")) for number, (data, _) in enumerate(limited_lines(lines, LONGEST_RECORD + 3), 1))
 
 
 def winner_words(players: Sequence[str], worths: Sequence[int]) -> str:
-    """Returns who won a match, or who drew, from the result of each player. The text is empty for one player, and if no result is 0 or more."""
+    """Returns a text that says who won a match, or who drew, given the result of each player. If there is only one player, or no result is
+    at least 0, the text is empty."""
     best = max(worths, default=-1)
     names = [player for player, worth in zip(players, worths) if worth == best >= 0]
     return f"{' and '.join(names)} {'won' if len(names) == 1 else 'drew'}." if names and len(players) > 1 else ""

@@ -32,13 +32,14 @@ ONE_RECORD = "Pass one record, or make a page of each with `ggp-records pages`"
 LONGEST_AXIS = 32
 # A page that would have more boards lists terms instead, because a board is about a hundred times as long as its terms.
 MOST_DRAWN = 32_768
-# A state is drawn from at most MOST_READ terms: its own, those of earlier states, and those of the rules. Its boards have at most MOST_PLACES places
-# and names in total. These limits keep the processor time of a drawing below about half a second. A larger state is listed as text.
+# At most MOST_READ terms are read to draw a state: its own terms, those of earlier states, and those of the rules. Its boards have at most
+# MOST_PLACES places and names in total. These limits keep the processor time of a drawing below about half a second. A larger state is
+# listed as text.
 MOST_READ, MOST_PLACES = 16_384, 4_096
-# A part of the page of a long match draws states with at most this many terms in total, which takes about as long. On average, these terms have at
-# most this many letters.
+# The page of a long match has parts. The states of a part have at most this many terms in total, so that drawing a part takes about as long
+# as drawing the largest state. Terms with more than this many letters on average count as more terms.
 MOST_OF_PART, LETTERS = 16_384, 64
-# The sizes of the caches of terms, of cells and of openings of boards.
+# The sizes of the caches of terms, of cells, and of the opening tags of boards.
 MOST_TERMS, MOST_CELLS, MOST_BOARDS = 65_536, 16_384, 64
 
 PHASES = {
@@ -67,7 +68,7 @@ ERRORS = {
 # Terms of a state that name the role whose turn it is.
 TURN = re.compile(r"\((?:control|turn|on-turn) ([^()]*)\)")
 
-# The values of a page for a state that is listed as text, except the terms of the state.
+# A state that is listed as text: the values that its page gets besides the terms of the state.
 LISTED = {"boards": "", "before": None, "gone": [], "is_empty": False, "drawn": [], "more": 0}
 
 # The labels at each place of a board.
@@ -103,7 +104,7 @@ def record_of(file: BinaryIO) -> bytes:
 
 @functools.lru_cache(MOST_TERMS)
 def words_of(term: str) -> list[str]:
-    """Returns the members of a term if the term is a list of atoms, or else an empty list."""
+    """If a term is a list of atoms, returns its members, otherwise an empty list."""
     is_flat = term.startswith("(") and term.endswith(")") and not re.search(r"[()]", term[1:-1])
     return term[1:-1].split(" ") if is_flat else []
 
@@ -113,8 +114,8 @@ def group_of(words: Sequence[str]) -> Group:
 
 
 def axis_of(values: Iterable[str]) -> list[str] | None:
-    """Returns the places of an axis in order: numbers, each with at most one letter before it, or single letters. Returns None if the values are not
-    such places."""
+    """Returns the places of an axis in order. They are numbers, each with at most one letter before it, or single letters. If the values
+    have another form, returns None."""
     if all(re.fullmatch("[a-z]", value) for value in values):
         axis = [chr(number) for number in range(ord(min(values)), ord(max(values)) + 1)]
     else:
@@ -131,16 +132,17 @@ def kind_of(axis: list[str]) -> str:
 
 
 def is_pairing(states: list[list[list[str]]]) -> bool:
-    """Returns whether in every state each first argument has exactly one second argument, or each second argument one first. Such arguments are not
-    places."""
+    """Returns whether in every state each first argument has exactly one second argument, or each second argument has exactly one first
+    argument. Such arguments are not places."""
     return any(all(len({term[side] for term in terms}) == len(terms) for terms in states) for side in (1, 2))
 
 
 @dataclass
 class Board:
-    """Terms that name places. `forms` has, for each relation with its number of members, the index of the first of the two members that name the
-    place, and the indices of the label: those of the other arguments, or that of the relation if there are none. `lean` is 0, or for a board of
-    hexagons 1 or -1: the number of half places by which each row is shifted to the right of the one below it."""
+    """Terms that name places. The keys of `forms` are the relations with their numbers of members. Each value has the index of the first of
+    the two members that name the place, and the indices of the members that make up the label: the other arguments or, if there are none,
+    the relation. `lean` is 0 for squares. For hexagons it is 1 or -1: each row is half a place to the right or to the left of the row below
+    it."""
 
     across: list
     up: list
@@ -161,7 +163,7 @@ class Board:
         return set(itertools.product(range(1, len(self.across) + 1), range(1, len(self.up) + 1)))
 
     def size(self, is_played: bool) -> int:
-        """Returns the maximum number of places, and names of columns and rows, that are drawn."""
+        """Returns the maximum number of places, of names of columns, and of names of rows that are drawn, in total."""
         return len(self.across) + len(self.up) + (len(self.across) * len(self.up) if is_played else len(self.places))
 
     def place(self, words: tuple[str, ...]) -> tuple[int, int, str]:
@@ -176,8 +178,8 @@ class Board:
 
 
 def lean_of(places: set[Place]) -> int:
-    """Returns the lean of a board of hexagons whose places form a hexagon, a star or a triangle, and are not changed by a rotation of 120 degrees.
-    Returns 0 for other places."""
+    """Returns the lean of a board of hexagons, or 0 for other boards. The places of such a board form a hexagon, a star or a triangle, and
+    a rotation by 120 degrees does not change them."""
     count, across, up = len(places), sum(x for x, _ in places), sum(y for _, y in places)
     for lean in (1, -1) if count > 6 else ():
         around = {(count * x - across, lean * (count * y - up)) for x, y in places}
@@ -187,7 +189,7 @@ def lean_of(places: set[Place]) -> int:
 
 
 def places_of(move: str, board: Board) -> list[Place]:
-    """Returns, in order, the places of a board that a move names with two consecutive arguments."""
+    """Returns the places of a board that a move names with two consecutive arguments, in their order."""
     words, places, index = words_of(move), [], 1
     while index + 1 < len(words):
         if words[index] in board.across and words[index + 1] in board.up:
@@ -199,13 +201,13 @@ def places_of(move: str, board: Board) -> list[Place]:
 
 
 def members_of(states: Iterable[list[list[str]]]) -> list[set[str]]:
-    """Returns the words that each member of a relation has in these states."""
+    """Returns, for each member of a relation, the words that it has in these states."""
     return list(map(set, zip(*(words for state in states for words in state))))
 
 
 def form_of(words_by_state: list[list[list[str]]], members: list[set[str]]) -> tuple[int, list[int]] | None:
-    """Returns the indices of place and label in the terms of one relation, or None if they do not name places. `members` has the possible words of
-    each member."""
+    """Returns where the terms of one relation have the place and the label, as indices. Returns None if the terms do not name places.
+    `members` has the possible words of each member."""
     # (on X Y); (cell X Y V) and (cell X Y V W); (piece V X Y)
     for at, labels in {3: [(1, [0])], 4: [(1, [3]), (2, [1])], 5: [(1, [3, 4])]}.get(len(members), []):
         if axis_of(members[at]) and axis_of(members[at + 1]):
@@ -218,8 +220,8 @@ def form_of(words_by_state: list[list[list[str]]], members: list[set[str]]) -> t
 
 
 class Named:
-    """The terms and moves in rules, with or without variables: for each relation the words of each term of a state, and the legal moves. `is_hex`
-    says that boards have hexagons, if their shape does not show it."""
+    """The terms of states and the moves that rules contain, possibly with variables: the terms by relation, each as a list of words, and
+    the legal moves. If `is_hex` is set, boards have hexagons even if their shape does not show this."""
 
     def __init__(self, sentences: Iterable[Expression] = (), is_hex: bool = False) -> None:
         heads = [head for head in map(head_of, sentences) if head[0] in ("init", "next", "legal") and len(head) > 1]
@@ -232,14 +234,15 @@ class Named:
 
     @functools.cached_property
     def boards(self) -> list[Board]:
-        """The boards whose places are known without a state, because moves name them. Rows are not letters, because (on a b) is a pile."""
+        """The boards whose places are known without a state, because moves name them. A board whose rows are letters is left out, because
+        (on a b) describes a pile of blocks."""
         found = boards_of_terms({group: {0: terms} for group, terms in self.ground.items() if terms}, Named((), self.is_hex))
         return [board for board in found if kind_of(board.up) != "letters" and any(places_of(move, board) for move in self.moves)]
 
 
 @functools.lru_cache(16)
 def named_in(rules: bytes, is_hex: bool) -> Named:
-    """Returns the names in a text of rules."""
+    """Returns the terms and moves that a text of rules contains."""
     return Named(expressions(rules.decode("latin-1")), is_hex)
 
 
@@ -254,12 +257,12 @@ def boards_of(states: Iterable[list[str]], named: Named = Named()) -> list[Board
 
 
 def boards_of_terms(terms: dict[Group, dict[int, list[list[str]]]], named: Named) -> list[Board]:
-    """Returns the boards of terms, given by relation and state, with the places that the rules name."""
+    """Returns the boards for terms that are grouped by relation and state. The boards include the places that the rules name."""
     boards, found = {}, []
     for group, by_state in terms.items():
         states, seen = list(by_state.values()), members_of(by_state.values())
         words = [word | more for word, more in zip(seen, named.members.get(group, seen))]
-        # Some words in rules are not places, for example those for places off the board.
+        # Some words in rules, for example those for places off the board, are not places.
         further = named.ground.get(group, ()) if form_of(states, words) else ()
         words = words if further else seen
         if form := form_of(states, words):
@@ -306,7 +309,8 @@ def board_places(board: Board, state: list[str]) -> Places:
 
 
 def ground_of(board: Board, places: Places) -> str | None:
-    """Returns the label that more than half of all places have, if every place has a label: that of an empty cell."""
+    """Returns the label of more than half of all places, which is that of an empty cell. Returns None if there is no such label, or if a
+    place has no label."""
     labels = [labels[0] for labels in places.values()]
     if len(labels) < len(board.across) * len(board.up):
         return None
@@ -315,8 +319,8 @@ def ground_of(board: Board, places: Places) -> str | None:
 
 @functools.lru_cache(MOST_CELLS)
 def cell(place: Place, name: str, labels: tuple[str, ...], marks: tuple[Mark, ...], kinds: tuple[str, ...], is_played: bool) -> "Markup":
-    """Returns a cell as HTML, as a button if a person plays. If its marks differ from its labels, the labels are its title. Cells are cached, because
-    most are the same in many states."""
+    """Returns a cell as HTML. If a person plays, the cell is a button. If its marks differ from its labels, the labels are its title. Cells
+    are cached, because most of them are the same in many states."""
     is_named = is_played or labels and (len(labels) > 1 or marks[0].text != labels[0])
     words = f"{name}: {', '.join(labels) or 'nothing'}" if is_named else ""
     kinds = " ".join([*kinds, *(marks[0].kinds() if len(marks) == 1 else [])])
@@ -350,8 +354,9 @@ def board_page(
 def states_of_page(
     states: list[list[str]], roles: Sequence[str], named: Named = Named(), since: int = 0, most: float = math.inf, is_played: bool = False
 ) -> Iterator[dict[str, Any]]:
-    """Yields each state, beginning with number `since`: its boards, unless they have more than `most` places in total; the role whose turn it is, if
-    the state names it; and the terms that no board shows: the current, previous and removed ones."""
+    """Yields each state, beginning with number `since`: its boards, unless they have more than `most` places in total; the role whose turn
+    it is, if the state names it; and the terms that no board shows: those of this state, those of the previous state, and those that were
+    removed."""
     boards = boards_of(states, named)
     is_drawn = len(boards) * (len(states) - since) <= MOST_DRAWN and sum(board.size(is_played) for board in boards) <= most
     boards = boards if is_drawn else []
@@ -362,7 +367,7 @@ def states_of_page(
         places = [board_places(board, state) for board in boards]
         ground = ground or [ground_of(board, own) for board, own in zip(boards, places)]
         mover = mover_of(state, roles)
-        # If a term only says whose turn it is, the heading of the state says that instead.
+        # If a term says only whose turn it is, the heading of the state replaces it.
         shown_above = [] if mover is None else [term for _, term in named_roles(state, roles) if len(words_of(term)) == 2]
         terms = [term for term in state if group_of(words_of(term)) not in on_boards and term not in shown_above]
         known, known_before = set(terms), known
@@ -374,12 +379,12 @@ def states_of_page(
 
 
 def quick(named: Named) -> Named:
-    """Returns the names, or, if the rules have too many of them, the names without those in the rules."""
+    """Returns the names in the rules. If they are too many to be read, returns no names, but keeps the shape of the boards."""
     return Named(is_hex=named.is_hex) if sum(map(len, named.terms.values())) > MOST_READ else named
 
 
 def last_state(states: list[list[str]], roles: Sequence[str], named: Named, is_played: bool = False) -> dict[str, Any] | None:
-    """Returns the drawing of the last state, if there is one. It takes as many earlier states into account as may be read."""
+    """Returns the drawing of the last state, if there is one. The drawing uses the terms of as many earlier states as the limit allows."""
     count = sum(size <= MOST_READ for size in itertools.accumulate(map(len, reversed(states))))
     if states and not count:
         return LISTED | {"terms": states[-1]}
@@ -387,21 +392,22 @@ def last_state(states: list[list[str]], roles: Sequence[str], named: Named, is_p
 
 
 def named_roles(state: list[str], roles: Sequence[str]) -> list[tuple[str, str]]:
-    """Returns the roles whose turn it is according to the terms of a state, each with its term, such as (control ROLE)."""
+    """Returns the roles whose turn it is according to a state. Each comes with the term that says so, such as (control ROLE)."""
     return [(word, term) for term in state if (found := TURN.fullmatch(term)) for word in found[1].split() if word in roles]
 
 
 def mover_of(state: list[str], roles: Sequence[str]) -> int | None:
-    """Returns the role whose turn it is, or None if the state does not name exactly one. In such states the other roles have one legal move."""
+    """Returns the role whose turn it is, or None unless the state names exactly one. If it names one, each other role has only one legal
+    move."""
     named = {role for role, _ in named_roles(state, roles)}
     return roles.index(named.pop()) if len(named) == 1 else None
 
 
 def turn_of_page(moves: Sequence[str], errors: Sequence[str], mover: int | None, why: Callable[[int, str], str]) -> list[dict[str, object]]:
-    """Returns the moves of a turn by role, with the reasons for replaced moves."""
+    """Returns the moves of a turn by role. Replaced moves have the reason."""
     found = []
     for role, (move, error) in enumerate(zip(moves, errors)):
-        # A role that is not on turn has one legal move, a single word such as `noop`.
+        # A role whose turn it is not has one legal move, a single word such as `noop`.
         is_idle = mover not in (None, role) and not error and "(" not in move
         found.append({"text": move, "error": error, "why": why(role, error) if error else "", "is_idle": is_idle})
     return found
@@ -415,7 +421,8 @@ def weight_of(state: list[str]) -> int:
 
 
 def states_of_part(states: list[list[str]], part: range, roles: Sequence[str], named: Named) -> list[dict[str, Any]]:
-    """Returns the states of a part of the page of a long match. The beginning of a state that is too large for a part is listed."""
+    """Returns the states of a part of the page of a long match. If a state is too large for a part, only the beginning of its list of terms
+    is shown."""
     first, before = states[part.start], max(0, part.start - 1)
     if (weight := weight_of(first)) > MOST_OF_PART:
         shown = first[: len(first) * MOST_OF_PART // weight]
@@ -438,8 +445,8 @@ def parts_of(states: list[list[str]]) -> list[range]:
 
 @dataclass(frozen=True)
 class Frame:
-    """How the page of a match is made: the head of the page as HTML, the names in the rules, the winner if the goals do not determine the winner, and
-    the part that is shown, or all parts."""
+    """What the page of a match shows besides the record: HTML for its head, the names in the rules, the winner if the goals do not
+    determine one, and the number of the part to show, or None for all parts."""
 
     head: "Markup | str" = ""
     named: Named = Named()
@@ -450,7 +457,8 @@ class Frame:
 def page_of(
     record: dict, game: Callable[[], Game] | None = None, answers: dict[tuple[int, int], str] | None = None, frame: Frame = Frame()
 ) -> bytes:
-    """Returns the page in ASCII. With the game and the answers, by role and turn counted from 0, the page explains replaced moves."""
+    """Returns the page in ASCII. If the game is given, the page also explains replaced moves, with `answers` by role and turn, counted from
+    0."""
     all_states, moves, errors, whys = record["states"], record["moves"], record["errors"], Whys(record, game, answers or {})
     parts = [range(len(all_states))] if frame.part is None else parts_of(all_states)
     part, roles = parts[frame.part or 0], record["roles"]
@@ -458,7 +466,7 @@ def page_of(
         states = list(states_of_page(all_states, roles, frame.named))
     else:
         states = states_of_part(all_states, part, roles, frame.named)
-    # A record that is too long has only its first states.
+    # Of a record that is too long, only the first states are known.
     last = len(moves) if part is parts[-1] else part.stop - 1
     turns = []
     for turn in range(max(0, part.start - 1), last):

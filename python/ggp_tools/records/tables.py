@@ -1,5 +1,5 @@
-"""Writes tables of matches, players and moves as an SQLite database or as CSV. Each row says whether its record is lawful, and whether it is a copy
-of an earlier record. The views have only lawful records, each once."""
+"""Writes tables of matches, players and moves as an SQLite database or as CSV. Each row says whether its record is lawful, and whether it
+is a copy of an earlier record. The views contain each lawful record once, and no other records."""
 
 import contextlib
 import csv
@@ -46,7 +46,7 @@ def player_rows(number: int, record: dict) -> Iterator[Row]:
     goals = record["goalValues"] or [None] * len(record["roles"])
     for role, (name, player, goal) in enumerate(zip(record["roles"], record["players"], goals)):
         substitutions = sum(bool(errors[role]) for errors in record["errors"])
-        # In CSV an empty text would look like no value.
+        # In CSV, an empty text would look like a missing value.
         marks = ("answered" if record[key][role] == "" else record[key][role] for key in ("startMarks", "endMarks"))
         yield number, role, name, player, goal, substitutions, *marks
 
@@ -74,7 +74,7 @@ def all_rows(lines: Iterable[Judged]) -> Iterator[tuple[str, Row]]:
 
 @contextlib.contextmanager
 def made_whole(path: pathlib.Path) -> Iterator[pathlib.Path]:
-    """Yields a temporary path. Once the file is written, renames it to the final path, which must not exist yet."""
+    """Yields a temporary path. After the file has been written, renames it to the final path, which must not exist yet."""
     with tempfile.TemporaryDirectory(prefix=".ggp-records-", dir=path.parent) as folder:
         made = pathlib.Path(folder, "made")
         yield made
@@ -96,7 +96,7 @@ def write_sqlite(path: pathlib.Path, lines: Iterable[Judged]) -> None:
 
 
 def write_csv(folder: pathlib.Path, lines: Iterable[Judged]) -> None:
-    """Writes a CSV file for each table, with the names of the columns first."""
+    """Writes a CSV file for each table. Its first row has the names of the columns."""
     folder.mkdir(parents=True, exist_ok=True)
     with contextlib.ExitStack() as files:
         writers = {table: csv.writer(files.enter_context(open(folder / f"{table}.csv", "w", encoding="utf-8", newline=""))) for table in TABLES}

@@ -4,16 +4,15 @@
 
 PROGRAM is `ggp_manager`, and OPTIONS are those of `verify --lines`, such as `--rules-file FILE`. Standard input is split at line ends into
 pieces of about BYTES bytes (4,194,304 by default). N processes, by default one for each processor, check one piece each. The output, the
-messages on standard error and the exit status are the same as those of one process over all lines; docs/COMMANDS.md explains them. There are
-three differences: verdicts are written piece by piece, reads are not counted, and the file of rules cannot be a pipe, because each process
-reads it.
+messages on standard error and the exit status are the same as those of one process over all lines; docs/COMMANDS.md explains them. There
+are three differences: verdicts are written piece by piece; the number of reads is not limited; and the file of rules cannot be a pipe,
+because each process reads it.
 
-N is at most 1,024. At most N + 2 pieces and their verdicts are in memory. Errors of this command begin with `ggp-verify-records: `. As with `--why`,
-exit status 1 means that a record is not lawful, and every other error gives 2. If a signal kills a process, the status is 128 plus the number of the
-signal. With `--json` among OPTIONS the verdicts are JSON.
+N is at most 1,024. At most N + 2 pieces and their verdicts are in memory. Errors of this command begin with `ggp-verify-records: `. As with
+`--why`, exit status 1 means that a record is not lawful, and every other error gives 2. If a signal kills a process, the status is 128 plus
+the number of the signal. If OPTIONS contain `--json`, the verdicts are JSON.
 
-The command needs only Python 3.11 or later.
-"""
+The command needs only Python 3.11 or later."""
 
 import argparse
 import collections
@@ -35,9 +34,9 @@ LONGEST_LINE = 64 << 30
 PIECE = 4 << 20
 MOST_PIECE = 1 << 30
 MOST_JOBS = 1_024
-# The number of bytes of one read.
+# The maximum number of bytes of one read.
 CHUNK = 1 << 20
-# The referee, its option for verdicts as JSON, and the row of each verdict as text.
+# The name of the referee, its option for verdicts as JSON, and the text of each verdict.
 REFEREE, JSON = "ggp_manager", "--json"
 IN_WORDS = {"lawful": "lawful\n", "not_lawful": "not lawful: {fault}\n", "skipped": ""}
 
@@ -68,14 +67,14 @@ def write_whole(stream: int, text: bytes) -> None:
 
 
 def say(text: bytes) -> None:
-    """Writes to standard error, and ignores errors in doing so."""
+    """Writes to standard error. Errors in doing so are ignored."""
     with contextlib.suppress(OSError):
         write_whole(2, text)
 
 
 def pieces(size: int) -> Iterator[bytes]:
-    """Yields standard input in pieces of whole lines, and raises an error of reading at the end. The first piece is empty, so that the referee
-    reports errors of its arguments or the rules before there is input. A line that is too long ends the last piece."""
+    """Yields standard input in pieces of whole lines. If reading fails, the error is raised after the last piece. The first piece is empty,
+    so that the referee reports errors of its arguments or the rules before there is input. A line that is too long ends the last piece."""
     yield b""
     parts, count, of_line = [], 0, 0
     try:
@@ -97,12 +96,12 @@ def pieces(size: int) -> Iterator[bytes]:
 
 
 def own_words(text: str) -> bytes:
-    """Returns a message of this command. Paths are printed as they were given."""
+    """Returns the bytes of a message of this command. Paths in it are printed as they were given."""
     return os.fsencode(f"ggp-verify-records: {text}\n")
 
 
 def check(words: list[str], piece: bytes) -> Checked:
-    """Runs the referee on a piece. The verdicts are text, or JSON if `--json` is among the words."""
+    """Runs the referee on a piece. If `words` contain `--json`, the verdicts are JSON, otherwise text."""
     is_json = JSON in words
     try:
         ran = subprocess.run([*words, *[JSON] * (not is_json)], input=piece, capture_output=True)
@@ -123,7 +122,8 @@ def check(words: list[str], piece: bytes) -> Checked:
 
 
 def feed(words: list[str], jobs: int, size: int, checks: queue.Queue) -> None:
-    """Submits each piece to a pool of threads, and passes on the futures in order, followed by None or by the error that ended the input."""
+    """Submits each piece to a pool of threads, and passes on the futures in order, followed by None, or by the error that ended the
+    input."""
     ended = concurrent.futures.Future()
     try:
         pool = concurrent.futures.ThreadPoolExecutor(jobs)
@@ -163,7 +163,8 @@ def check_all(words: list[str], jobs: int, size: int) -> None:
 
 
 def hold_closed_streams() -> None:
-    """Opens /dev/null for each closed standard stream, in a mode in which the stream still fails, so that no other file gets its number."""
+    """Opens /dev/null for each closed standard stream, so that no other file gets the stream's number. The file is opened in a mode in
+    which using the stream still fails."""
     for stream, mode in enumerate((os.O_WRONLY, os.O_RDONLY, os.O_RDONLY)):
         try:
             os.fstat(stream)
@@ -172,7 +173,7 @@ def hold_closed_streams() -> None:
 
 
 def arguments(words: list[str]) -> tuple[argparse.Namespace, list[str]]:
-    """Returns the arguments before `--`, and those after it, which are for the referee."""
+    """Returns the arguments before `--`, and the arguments after it, which are passed to the referee."""
     about, usage, more = __doc__.split("\n\n", 2)
     reader = argparse.ArgumentParser("ggp-verify-records", usage=usage.strip(), description=about, epilog=more)
     jobs = len(os.sched_getaffinity(0))
@@ -201,6 +202,6 @@ def main() -> int:
     except MemoryError:
         say(b"ggp_manager: want of memory\n")
         status = 2
-    # A thread may still be waiting for input, but everything has been written.
+    # Everything has been written, but a thread may still be waiting for input.
     os._exit(status)
 

@@ -25,14 +25,15 @@ class Said(NamedTuple):
 
 
 def checks_memory(program):
-    """Returns whether a program is unproved, and therefore checks memory at run time."""
+    """Returns whether a program is unproved. Such a program checks memory at run time."""
     with open(program, "rb") as file:
         return b"AddressSanitizer" in file.read()
 
 
 @contextlib.contextmanager
 def begun(words, **streams):
-    """Starts a program, and yields its process. Kills the process after the time limit or an exception, so that no read and no wait lasts forever."""
+    """Starts a program, and yields its process. Kills the process after the time limit or after an exception, so that no read and no wait
+    lasts forever."""
     child = subprocess.Popen(words, **streams)
     patience = threading.Timer(PATIENCE, child.kill)
     patience.daemon = True
@@ -65,8 +66,8 @@ def asked(program, words, text=b""):
 
 
 def asked_for_seconds(program, words, text=b""):
-    """Returns the result of the program, and the processor seconds that it took. No other child process may end in the meantime, or its time
-    would be counted too."""
+    """Returns the result of the program, and the processor seconds that it took. In the meantime, no other child process may end, because
+    its time would be counted too."""
     before = resource.getrusage(resource.RUSAGE_CHILDREN)
     said = asked(program, words, text)
     after = resource.getrusage(resource.RUSAGE_CHILDREN)
@@ -74,15 +75,15 @@ def asked_for_seconds(program, words, text=b""):
 
 
 def asked_in_shell(program, words, streams, text=b"", before=""):
-    """The same, with redirections by the shell in `streams`: for example, `>&-` closes standard output. The shell may run another command before the
-    program."""
+    """Like `asked`, but with redirections by the shell in `streams`; for example, `>&-` closes standard output. Before the program, the
+    shell may run the command `before`."""
     call = ["bash", "-c", f'{before} exec "$0" "$@" {streams}', program, *words]
     ran = subprocess.run(call, input=text, capture_output=True, timeout=PATIENCE)
     return Said(ran.returncode, ran.stdout, ran.stderr.decode(errors="replace"))
 
 
 def asked_by_bytes(program, words, count):
-    """The same, with an input of which each read returns one byte."""
+    """Like `asked`, but each read of the input returns one byte."""
     ours, theirs = socket.socketpair(socket.AF_UNIX, socket.SOCK_SEQPACKET)
     with begun([program, *words], stdin=theirs, stdout=subprocess.PIPE, stderr=subprocess.PIPE) as child:
         theirs.close()
@@ -98,7 +99,7 @@ def asked_by_bytes(program, words, count):
 
 
 def asked_with_closed_pipe(program, words, text=b""):
-    """The same, with a standard output whose reader has exited."""
+    """Like `asked`, but the reader of standard output has exited."""
     ours, theirs = os.pipe()
     os.close(ours)
     ran = subprocess.run([program, *words], input=text, stdout=theirs, stderr=subprocess.PIPE, timeout=PATIENCE)

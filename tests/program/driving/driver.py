@@ -37,12 +37,13 @@ def tell(name: str, faults: Iterable[str], well: str) -> int:
 
 
 def run_test(about: str, faults: Callable[[str], Iterable[str]], well: str) -> NoReturn:
-    """Runs a test whose only argument is the program, and ends with its exit status."""
+    """Runs a test whose only argument is the program. Ends this process with the test's exit status."""
     sys.exit(tell(os.path.basename(sys.argv[0]), faults(program_of(about)), well))
 
 
 def little_room(size: int, reaction: Callable | signal.Handlers | int | None) -> Callable[[], None]:
-    """Returns a function that limits the size of a process's files. A write past the limit fails, and the process handles the signal in this way."""
+    """Returns a function that limits the size of the files that a process writes. A write past the limit fails, and `reaction` says how the
+    process handles the signal."""
 
     def limit() -> None:
         signal.signal(signal.SIGXFSZ, reaction)

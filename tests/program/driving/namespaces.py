@@ -18,7 +18,7 @@ from driving.asking import body_of
 # A game of two turns, in which the only role has one move.
 RULES = "(role ann) (init a) (legal ann go) (<= (next b) (true a)) (<= (next c) (true b)) (<= terminal (true c)) (goal ann 100)"
 PATIENCE = 300
-# A firewall's rule for a port concerns IPv4 and IPv6, so no two players have the same port.
+# A firewall's rule for a port applies to IPv4 and to IPv6, so no two players have the same port.
 PORTS = itertools.count(20001)
 
 
@@ -79,7 +79,7 @@ def stopped(namespace: str, seconds: float) -> Iterator[None]:
 
 
 class Ann(threading.Thread):
-    """A player in a namespace. A player that calls a function with its port before it answers the first PLAY."""
+    """A player in a namespace. Before it answers the first PLAY, it calls a function with its port."""
 
     def __init__(self, namespace: str, host: str, before: Callable[[int], object] = lambda _: None) -> None:
         super().__init__(daemon=True)
@@ -105,7 +105,7 @@ class Ended(NamedTuple):
     errors: str
 
     def marks(self) -> list[str]:
-        """Returns the errors of the answers to START, each PLAY and STOP, or an empty list if there is no record."""
+        """Returns the errors of the answers to START, each PLAY and STOP. If there is no record, the list is empty."""
         if not self.output:
             return []
         record = json.loads(self.output)
@@ -120,12 +120,12 @@ def played(namespace: str, program: str, address: str, seconds: int, rules: str 
 
 
 def blamed(case: str, ended: Ended, marks: list[str]) -> Iterator[str]:
-    """Checks that the match has a record in which the player has these errors. Yields what is wrong."""
+    """Checks that there is a record, and that the player has these errors in it. Yields the differences."""
     if (ended.status, ended.marks()) != (0, marks):
         yield f"{case}: expected a record with {marks}, got status {ended.status}, {ended.marks()}, {ended.errors!r}"
 
 
 def spared(case: str, ended: Ended) -> Iterator[str]:
-    """Checks that the match has no record, because this computer is the cause. Yields what is wrong."""
+    """Checks that there is no record, because the cause is on this computer. Yields the differences."""
     if (ended.status, ended.output) != (2, "") or "no network" not in ended.errors:
         yield f"{case}: expected no record and a report of no network, got status {ended.status}, {ended.marks()}, {ended.errors!r}"

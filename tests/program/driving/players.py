@@ -1,5 +1,5 @@
-"""Players of Countdown inside a test. One thread serves all of them, each on a separate port. If a program that plays with them is killed, they keep
-running and remember their messages."""
+"""Players of Countdown inside a test. One thread serves all of them, each on a separate port. If a program that plays with them is killed,
+they continue to run, and remember their messages."""
 import asyncio
 import random
 import re
@@ -9,7 +9,7 @@ ROLES = ("red", "blue")
 
 
 class Seat:
-    """A match of Countdown from the view of one player, and the moves that this player sent."""
+    """A match of Countdown as one player sees it, and the moves that this player sent."""
 
     def __init__(self, role, heap):
         self.role, self.heap, self.sent = role, heap, []
@@ -29,7 +29,7 @@ class Player:
     def __init__(self, name, heap, think=0.0, is_strict=False, padding=0):
         self.name, self.heap, self.think, self.is_strict, self.padding = name, heap, think, is_strict, padding
         self.chance = random.Random(name)
-        # Its roles in open matches, its last role in each match that is over, and the ids of all matches that began.
+        # Its roles in open matches, its last role in each finished match, and the ids of all matches that began.
         self.seats, self.over, self.begun = {}, {}, []
         # The number of complete messages that it has received, and of open connections.
         self.messages = self.serving = 0

@@ -59,7 +59,7 @@ def whole_lines(text):
 
 
 def partial_records(lines):
-    """Returns the numbers, counted from 1, of the lines with records whose call logs are incomplete: a complete call log ends with `over` for each
+    """Returns the line numbers, counted from 1, of records whose call logs are incomplete. A complete call log ends with `over` for each
     role."""
     places = [place for place, line in enumerate(lines) if line.startswith(b"{")]
     ends = [*places[1:], len(lines)]
@@ -88,8 +88,8 @@ def errors_of(record):
 
 
 def faults_of_records(program, game, text, ids, players):
-    """Yields the errors in the records of a season: each match must have one lawful record with the moves that its players sent, and without
-    errors."""
+    """Yields the errors in the records of a season. Each match must have one lawful record. The record must have the moves that the players
+    sent, and no errors."""
     try:
         records = records_in(whole_lines(text)[0])
     except ValueError as fault:

@@ -1,4 +1,4 @@
-"""How the tests of the program run a program that may hang: it is killed, and its exit status shows this."""
+"""How the tests run a program that may hang. The program is killed, and the exit status in its result shows this."""
 import subprocess
 import threading
 import unittest

@@ -66,7 +66,7 @@ class Programs(unittest.TestCase):
             write_beside(program, "proved", crates.made_from())
             self.assertTrue(is_current(program, "proved"))
             self.assertFalse(is_current(program, "proved", "text: another\n"))
-            # A new program replaces the file, as if the build had been stopped right after that.
+            # A new program replaces the file, as if the build had been interrupted right after this step.
             write(program, "two")
             self.assertFalse(is_current(program, "proved"))
             write(program, "one")

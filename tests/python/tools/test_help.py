@@ -45,4 +45,4 @@ class Help(unittest.TestCase):
             words, found = [sys.executable, "-c", OLDER, f"{TOP}/{file}"], {**os.environ, "PYTHONPATH": f"{TOP}/python"}
             said = subprocess.run(words, env=found, stdin=subprocess.DEVNULL, capture_output=True, text=True)
             name = os.path.basename(file)
-            self.assertEqual((said.returncode, said.stderr), (1, f"{name}: Python 3.10 runs it, and it needs 3.11 or later\n"))
+            self.assertEqual((said.returncode, said.stderr), (1, f"{name}: this is Python 3.10, but the command needs 3.11 or later\n"))

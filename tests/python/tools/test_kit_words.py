@@ -1,4 +1,4 @@
-"""The words of the toolchain that the crates' code must not use."""
+"""The functions of the toolchain that the crates' code must not use."""
 import importlib.machinery
 import importlib.util
 

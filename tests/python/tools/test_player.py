@@ -1,4 +1,4 @@
-"""The example player: its answers, including those to unexpected messages, after which it must continue."""
+"""The example player: its answers to all messages, including unexpected ones. After an unexpected message, it must continue."""
 import contextlib
 import io
 import os
@@ -155,7 +155,7 @@ class Serving(unittest.TestCase):
             self.assertEqual(asked(port, "(INFO)"), (200, "available"))
 
     def test_a_large_game(self):
-        """A game with more bytes than the usual limits allow, and rules that are nested more deeply."""
+        """A game with more bytes than the usual limits allow, and with rules that are nested more deeply."""
         count, lists = 4_500, 60
         steps = (f"(<= (c {number}) {'(or ' * lists}(c {number + 1}){')' * lists})" for number in range(count))
         rules = f"((role red) (legal red go) (<= (legal red deep) (c 0)) {' '.join(steps)} (c {count}) (f {'x' * 16_777_216}))"

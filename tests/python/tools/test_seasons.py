@@ -1,4 +1,4 @@
-"""The players in the tests of seasons, and these tests' checks of record files."""
+"""The players in the tests of seasons, and how these tests check record files."""
 import os
 import pathlib
 import tempfile

@@ -41,8 +41,8 @@ returns-in-NotJson g c =
       fails = (
         text,
         given,
-        check_fails g.R.Read.remaining g.W.Write.contents c.args.is_json (g.G.Game.rules c.args.game.now) text c.args.reader.now reader' c.args.writer.now c.tell_unlawful-told.new.writer c.in-Err.fault c.tell_unlawful-told.result
-            short read ended (c.in-Err.ensures.refused (λ same. absurd cc)) c.in-Err.ensures.first c.tell_unlawful-told.ensures,
+        check_fails g.R.Read.remaining g.W.Write.contents c.args.is_json (g.G.Game.rules c.args.game.now) text c.args.reader.now reader' c.args.writer.now c.write_unlawful-told.new.writer c.in-Err.fault c.write_unlawful-told.result
+            short read ended (c.in-Err.ensures.refused (λ same. absurd cc)) c.in-Err.ensures.first c.write_unlawful-told.ensures,
       );
     }
 
@@ -61,7 +61,7 @@ returns-in_default g c =
       fails = (
         text,
         given,
-        check_fails g.R.Read.remaining g.W.Write.contents c.args.is_json (g.G.Game.rules c.args.game.now) text c.args.reader.now reader' c.args.writer.now c.tell_unlawful-told.new.writer c.in-Err.fault c.tell_unlawful-told.result
-            short read ended (c.in-Err.ensures.refused some) c.in-Err.ensures.first c.tell_unlawful-told.ensures,
+        check_fails g.R.Read.remaining g.W.Write.contents c.args.is_json (g.G.Game.rules c.args.game.now) text c.args.reader.now reader' c.args.writer.now c.write_unlawful-told.new.writer c.in-Err.fault c.write_unlawful-told.result
+            short read ended (c.in-Err.ensures.refused some) c.in-Err.ensures.first c.write_unlawful-told.ensures,
       );
     }

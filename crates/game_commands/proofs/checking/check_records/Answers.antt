@@ -6,7 +6,7 @@ use Rattle.std.specs.Str.Lines.{lines}
 use Rattle.whole_streams.specs.Lines.{BeginsWithLine, IsNextLine}
 use Rattle.game_commands.specs.Verdicts.{AreVerdicts, is_skipped, is_unlawful, count_skipped, count_unlawful}
 use Rattle.game_commands.specs.Checks.{CheckStops}
-use Rattle.game_commands.proofs.CheckedLines.{begins_more, verdicts_push, lines_push, count_push, calls_on, read_stops, tell_stops}
+use Rattle.game_commands.proofs.CheckedLines.{begins_more, verdicts_push, lines_push, count_push, calls_on, read_stops, write_stops}
 use Rattle.game_commands.proofs.checking.check_records.Goals as goal
 
 pub loop-place-init : goal.loop-place-init
@@ -89,7 +89,7 @@ returns-in-Err-check_line-clause-stops g c =
     let begins = subst (λ n. IsNextLine (g.R.Read.remaining c.next_line.new.reader.stream) bytes n left) c.in-Ok-Ended.field-0-is next.2 in
     let same : c.deref.result.now ≡ c.in-Ok-Ended.line.items = search rules in
     let line = subst (λ l. BeginsWithLine bytes l left) (sym same) begins in
-    let why = tell_stops g.R.Read.remaining g.W.Write.contents c.args.is_json (g.G.Game.rules c.args.game.now) c.in-Err-check_line.fault was.2 bytes c.deref.result.now c.args.reader.now c.next_line.new.reader c.args.writer.now c.loop-place.writer c.check_line.new.writer
+    let why = write_stops g.R.Read.remaining g.W.Write.contents c.args.is_json (g.G.Game.rules c.args.game.now) c.in-Err-check_line.fault was.2 bytes c.deref.result.now c.args.reader.now c.next_line.new.reader c.args.writer.now c.loop-place.writer c.check_line.new.writer
     (c.in-Ok-Ended.ensures.no_fault ∙ c.loop-place.invariant.read) (inl (left, line)) (was.6, c.loop-place.invariant.wrote) c.in-Err-check_line.ensures.fails in
     (was.0 ++ next.0, was.1, bytes, was.2, Consumes-trans _ _ _ _ _ was.3 next.1, begins_more was.0 was.1 c.loop-place.buffer next.0 was.4, was.5, why)
 
@@ -100,7 +100,7 @@ returns-in-Err-check_line-2-clause-stops g c =
     let bytes = c.loop-place.buffer ++ next.0 in
     let last = subst (λ n. IsNextLine (g.R.Read.remaining c.next_line.new.reader.stream) bytes n c.next_line.new.self) c.in-Ok-Last.field-0-is next.2 in
     let same : c.deref-in-Ok-Last.result.now ≡ c.in-Ok-Last.line.items = search rules in
-    let why = tell_stops g.R.Read.remaining g.W.Write.contents c.args.is_json (g.G.Game.rules c.args.game.now) c.in-Err-check_line-2.fault was.2 bytes c.deref-in-Ok-Last.result.now c.args.reader.now c.next_line.new.reader c.args.writer.now c.loop-place.writer c.check_line-in-Ok-Last.new.writer
+    let why = write_stops g.R.Read.remaining g.W.Write.contents c.args.is_json (g.G.Game.rules c.args.game.now) c.in-Err-check_line-2.fault was.2 bytes c.deref-in-Ok-Last.result.now c.args.reader.now c.next_line.new.reader c.args.writer.now c.loop-place.writer c.check_line-in-Ok-Last.new.writer
     (c.in-Ok-Last.ensures.no_fault ∙ c.loop-place.invariant.read) (inr (last.0, last.2, same ∙ last.1, last.4)) (was.6, c.loop-place.invariant.wrote) c.in-Err-check_line-2.ensures.fails in
     (was.0 ++ next.0, was.1, bytes, was.2, Consumes-trans _ _ _ _ _ was.3 next.1, begins_more was.0 was.1 c.loop-place.buffer next.0 was.4, was.5, why)
 

@@ -15,8 +15,8 @@ loop-player-preserved g c = λ none.
       | then-have_answered w ↦ w.have_answered-is ∙ sym (ap (λ (b : Bool). b && answered) w.if-have_answered.true)
       | else-have_answered w ↦ w.have_answered-is ∙ (w.if-have_answered.false ∙ sym (ap (λ (b : Bool). b && answered) w.if-have_answered.false))
     ] in
-    let next = told_next c.args.plan.now.is_json c.args.plan.now.players.items c.loop-player.player-index _ c.loop-player.have_answered answered _ _ _ (rw c.deref-player-items.ensures.value at c.loop-player-test.true) (c.loop-player.invariant none) (rw c.deref-player-items.ensures.value at c.in_ok-tell_abort.ensures.told) in
-    subst (λ (all : Bool). TellsAnswers c.args.plan.now.is_json (take (c.loop-player.player-index + 1) c.args.plan.now.players.items) all (g.W.Write.contents c.args.writer.now.stream) (g.W.Write.contents c.tell_abort.new.writer.stream)) (sym both) next
+    let next = told_next c.args.plan.now.is_json c.args.plan.now.players.items c.loop-player.player-index _ c.loop-player.have_answered answered _ _ _ (rw c.deref-player-items.ensures.value at c.loop-player-test.true) (c.loop-player.invariant none) (rw c.deref-player-items.ensures.value at c.in_ok-write_abort.ensures.told) in
+    subst (λ (all : Bool). TellsAnswers c.args.plan.now.is_json (take (c.loop-player.player-index + 1) c.args.plan.now.players.items) all (g.W.Write.contents c.args.writer.now.stream) (g.W.Write.contents c.write_abort.new.writer.stream)) (sym both) next
 
 pub returns-in-None-clause-all : goal.returns-in-None-clause-all
 returns-in-None-clause-all g c =
