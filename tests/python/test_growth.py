@@ -213,7 +213,8 @@ CHANGES = (
     ("", "withdrawn_results", '"keep"', '"void"', REFUSED, {"players": {**FILE["players"], "withdrawn": "true"}}),
     ("", "absent_rounds", "1", "2", SHOWN, SWISS), ("", "forfeit", "true", "false", REFUSED, SWISS), ("", "pause", "true", "false", FREE, SWISS),
     ("", "absent", '"leave"', '"play"', FREE, {}), ("", "tries", "1", "2", FREE, {}), ("", "wait", "1", "2", FREE, {}), ("", "info", "1", "2", FREE, {}),
-    ("launcher", "command", '["srun"]', '["ssh"]', FREE, {}), ("launcher", "slots", "2", "3", FREE, {}), ("faults", "replaced", "3", "2", REFUSED, {}),
+    ("launcher", "command", '["srun"]', '["ssh"]', FREE, {}), ("launcher", "slots", "2", "3", FREE, {}), ("launcher", "queue_seconds", "1", "2", FREE, {}),
+    ("faults", "replaced", "3", "2", REFUSED, {}),
     ("form", "kind", '"round_robin"', '"knockout"', REFUSED, {"form": {}}), ("form", "rounds", "1", "2", SHOWN, {}), ("form", "rounds", "2", "1", REFUSED, {}),
     ("form", "rounds", "2", "1", REFUSED, SWISS), ("form", "final", None, "2", REFUSED, SWISS),
     ("form", "one", '"p0"', '"p1"', SHOWN, {"form": {"kind": '"gauntlet"'}}),
@@ -227,7 +228,7 @@ CHANGES = (
     ("started", "command", '["x", "{port}"]', '["y", "{port}"]', FREE, {}), ("started", "launcher", '["ssh"]', '["srun"]', FREE, {}),
     ("started", "environment", '{A = "1"}', '{A = "2"}', FREE, {}), ("started", "memory", '"1G"', '"2G"', FREE, {}),
     ("started", "restart", '"never"', '"when_dead"', FREE, {}), ("started", "directory", '"a"', '"b"', FREE, {}),
-    ("started", "processors", "1", "2", FREE, {}), ("started", "start_seconds", "1", "2", FREE, {}),
+    ("started", "processors", "1", "2", FREE, {}), ("started", "start_seconds", "1", "2", FREE, {}), ("started", "queue_seconds", "1", "2", FREE, {}),
 )
 
 

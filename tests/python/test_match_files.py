@@ -17,7 +17,7 @@ from ggp_tools.competition.competition_file import Faults
 from ggp_tools.competition.files import UNFINISHED, Folder, Refused, file_bytes, held, lock_place, sync, write_whole
 from ggp_tools.competition.match_files import (
     account_bytes, batches, check_records, checks, fault_of_files, free_ending, has_shape, keep, referee_faults, set_aside, unplanned_records,
-    unverified_result,
+    size_of, unverified_result,
 )
 from ggp_tools.competition.known import Known, sum_of_file
 from ggp_tools.competition.results import read_record
@@ -96,8 +96,9 @@ class Kept(unittest.TestCase):
     def test_just_so_many_bytes_are_checked_together(self):
         self.matches(300, 50, 50, 50, 100, 50)
         self.folder.account("cup-4").unlink()
-        self.assertEqual([[match.id[-1] for match in batch] for batch in batches(self.folder, self.plan.matches)], [["0"], ["1", "2"], ["3", "4"], ["5"]])
-        self.assertEqual(list(batches(self.folder, [])), [])
+        found = batches(self.plan.matches, lambda match: size_of(self.folder.record(match.id), self.folder.account(match.id)))
+        self.assertEqual([[match.id[-1] for match in batch] for batch in found], [["0"], ["1", "2"], ["3", "4"], ["5"]])
+        self.assertEqual(list(batches([], size_of)), [])
 
     def test_a_file_past_the_limit_is_not_read_to_its_end(self):
         self.matches(20)

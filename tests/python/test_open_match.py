@@ -92,7 +92,7 @@ class WithMatch(unittest.TestCase):
         players, news = StartedPlayers(folder, competition, None, self.reporter), types.SimpleNamespace(set=lambda: self.left.append(self.open.stage))
         playing = types.SimpleNamespace(
             plan=self.plan, referee=self.referee, slots=self.slots, reporter=self.reporter, launcher=None, players=players, may_begin=lambda match: self.may_begin, news=news,
-            checking=checking.Checking(self.plan, self.referee),
+            checking=checking.Checking(self.plan, self.referee), disk=None,
         )
         self.slots.take(self.match)
         self.open = OpenMatch(playing, self.match)

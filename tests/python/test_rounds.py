@@ -494,10 +494,30 @@ class Refusals(unittest.TestCase):
     def test_sums_of_what_was_planned_stay(self):
         first, other = "0" * 64, "1" * 64
         old, more, changed = sums_text({"a.kif": first}), sums_text({"a.kif": first, "b.kif": other}), sums_text({"a.kif": other, "b.kif": other})
-        folder = Folder("cup")
+        folder = Folder(self.enterContext(tempfile.TemporaryDirectory()))
+        folder.make(folder.rules)
+
+        def is_growth(file, before, after):
+            file.write_bytes(before)
+            return grows(folder, file, after)
+
         for file in (folder.rule_sums, folder.description_sums):
-            self.assertEqual([grows(folder, file, old, new) for new in (old, more, changed, b"", b"x")], [True, True, False, False, False])
-            self.assertEqual([grows(folder, file, spoilt, more) for spoilt in (b"", b"x", old * 2)], [False] * 3)
+            self.assertEqual([is_growth(file, old, new) for new in (old, more, changed, b"", b"x")], [True, True, False, False, False])
+            self.assertEqual([is_growth(file, spoilt, more) for spoilt in (b"", b"x", old * 2)], [False] * 3)
+
+    def test_a_schedule_only_loses_matches_without_a_record(self):
+        folder = Folder(self.enterContext(tempfile.TemporaryDirectory()))
+        folder.make(folder.records)
+        head, *rows = (f"{name}\tgame\t1\t1\tann bob\n".encode() for name in ("id", "cup-1", "cup-2", "cup-3"))
+        folder.schedule.write_bytes(head + b"".join(rows))
+        folder.record("cup-2").touch()
+        for kept, may_change in ((3, True), (2, True), (1, False), (0, False)):
+            self.assertEqual(grows(folder, folder.schedule, head + b"".join(rows[:kept])), may_change, kept)
+        self.assertTrue(grows(folder, folder.schedule, head + b"".join(rows) + b"cup-4\tgame\t1\t1\tann bob\n"))
+        self.assertFalse(grows(folder, folder.schedule, head + rows[0] + b"cup-9\tgame\t1\t1\tann bob\n"))
+        # The last row may be cut off.
+        folder.schedule.write_bytes(head + rows[0] + rows[1][:9])
+        self.assertTrue(grows(folder, folder.schedule, head + b"".join(rows)))
 
     def test_a_line_has_no_round(self):
         self.assertEqual(Match("cup-1", "game", 1, 2, ("a", "b"), 3).line(), "cup-1\tgame\t1\t2\ta b\n")

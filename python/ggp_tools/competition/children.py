@@ -21,8 +21,6 @@ MOST_AT_ONCE = 1 << 16
 MOST_ABORTS = 1_024
 # After its time limit, a process has this many more seconds, because this process may be late.
 SOON = 0.1
-# The threads that wait for the disk. Checks of matches, which may take long, have others.
-DISK = concurrent.futures.ThreadPoolExecutor(8)
 # Python ignores these signals, and other programs must not.
 NOT_IGNORED = signal.SIGPIPE, signal.SIGXFSZ
 
@@ -122,9 +120,9 @@ async def run(words: list[str], seconds: float | None = None) -> Done:
         return Done(status, output.read(), errors.read(), time.monotonic() - began)
 
 
-async def in_thread(call: Callable[..., object], *arguments: object) -> None:
-    """Makes a call that takes at most as long as the disk, and waits for its end even if this is cancelled."""
-    calling = asyncio.get_running_loop().run_in_executor(DISK, call, *arguments)
+async def in_thread(threads: concurrent.futures.Executor | None, call: Callable[[], object]) -> None:
+    """Makes a call in one of these threads, or in those of the event loop, and waits for its end even if this is cancelled."""
+    calling = asyncio.get_running_loop().run_in_executor(threads, call)
     try:
         await asyncio.shield(calling)
     finally:

@@ -67,11 +67,11 @@ class OpenMatch:
     async def go(self) -> None:
         """Plays the match. If the match is ended while it is being played, `is_broken` is set."""
         try:
-            await in_thread(self.make_directory)
+            await in_thread(self.playing.disk, self.make_directory)
             if played := await (self.play_elsewhere() if self.playing.launcher else self.play_here()):
                 self.release_players()
                 self.stage = CHECKING
-                await in_thread((self.directory / CHECKING).touch)
+                await in_thread(self.playing.disk, (self.directory / CHECKING).touch)
                 self.result, self.why, self.stops_game = await self.playing.checking.check(self.match, played, self.log)
         except BaseException:
             self.is_broken = self.stage == PLAYING
@@ -108,7 +108,7 @@ class OpenMatch:
         """Returns whether the match has begun. If it has not, and its players are free, begins it."""
         if self.stage == ASKING and await self.ask() and self.playing.may_begin(self.match):
             self.stage = PLAYING
-            await in_thread(self.name_players)
+            await in_thread(self.playing.disk, self.name_players)
         return self.stage == PLAYING
 
     async def ask(self) -> bool:

@@ -2,6 +2,7 @@
 are free."""
 
 import asyncio
+import concurrent.futures
 import contextlib
 import errno
 import math
@@ -31,6 +32,8 @@ from ggp_tools.reporting import NOT_BEGUN, REDRAWN, Reporter
 
 # The time limit, in seconds, for ABORT to the players of matches that `play` ends.
 ABORT_SECONDS = 3
+# The number of threads that wait for the disk before a match begins.
+DISK_THREADS = 8
 ENDED = "broken off"
 # For each signal, the number of interrupts that it counts as. After the first interrupt no more matches begin. The second one ends the open
 # matches.
@@ -59,6 +62,8 @@ class Playing:
         self.waiting: deque[Match] = deque()
         # `searched_at` is the time of the last search for matches that can begin.
         self.interrupts, self.is_full, self.searched_at = 0, False, 0.0
+        # The threads that wait for the disk before a match. Checks of matches, which may take long, have others.
+        self.disk: concurrent.futures.Executor | None = None
         self.group: asyncio.TaskGroup | None = None
         self.watch: Callable[[dict], str | None] | None = None
 
@@ -217,6 +222,7 @@ class Playing:
             if number != signal.SIGHUP or signal.getsignal(number) != signal.SIG_IGN:
                 asyncio.get_running_loop().add_signal_handler(number, self.interrupt, count)
         may_pair = not self.plan.competition.pause or not self.waiting
+        self.disk = concurrent.futures.ThreadPoolExecutor(DISK_THREADS)
         try:
             await self.go()
             while may_pair and self.may_begin() and not self.reporter.fault and (matches := plan_next_round(self.plan, self.results)):
@@ -226,6 +232,7 @@ class Playing:
                 self.slots.idle_until = 0.0
                 await self.go()
         finally:
+            self.disk.shutdown()
             await self.players.end()
 
 
