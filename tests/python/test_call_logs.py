@@ -85,6 +85,10 @@ class LogFaults(unittest.TestCase):
         lost = line_of(Other("lost", {"match": "cup-001", "time": 5, "reason": "gone"})).decode()
         self.assertEqual(published(f"Welcome\x1b[1m\n{before}{lost}{LOG}".encode(), "cup-001"), LOG.encode())
 
+    def test_a_match_that_was_given_up(self):
+        log = LOG.replace("(STOP cup-001 (noop noop))", "(ABORT cup-001)").replace("STOP", "ABORT")
+        self.assertIsNone(fault_of_run(MATCH, ROLES, last_run(io.BytesIO(log.encode()), MATCH.id), ACCOUNT.replace(b"stop (noop noop)", b"abort")))
+
     def test_a_line_that_no_account_says_is_not_published(self):
         events = (
             Other("absent", {"match": "cup-001", "role": 0, "player": "ann"}), Other("left_out", {"count": 3}), Host("cup-001", "h"), Open("cup-002", 1),
@@ -144,7 +148,7 @@ class LogFaults(unittest.TestCase):
     def test_only_an_error_has_a_reason_and_only_one_of_the_referee(self):
         for reason, is_sound in (
             (None, True), ("no connection", True), ("no answer in time: 17 of the head's bytes received", True), ("a read failed: ConnectionReset: nothing received", True),
-            ("the status is 404, not 200: 91 of the reply's bytes received", True), ("no answer in time: ann was seen cheating", False), ("", False), ("it cheated", False),
+            ("the status is 404, not 200: 91 of the reply's bytes received", True), ("no answer in time: ann was seen cheating", False), ("a read failed: Interrupted by ann", False), ("", False), ("it cheated", False),
         ):
             text = line(MATCH, 1, 1, "(START cup-001 (second 2) ... 5 6)", Missed(f"CE ({reason})")) if reason else LINES[2].replace('"no connection"', '""' if reason == "" else "null")
             self.assertEqual(self.fault("".join([*LINES[:2], text, *LINES[3:]])), None if is_sound else "line 3 of its log does not agree with its call log", reason)
