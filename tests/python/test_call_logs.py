@@ -118,6 +118,7 @@ class LogFaults(unittest.TestCase):
         for at, text in enumerate(LINES):
             doubled = self.fault("".join([*LINES[: at + 1], *LINES[at:]]))
             self.assertRegex(doubled or "", "^(`publish` would leave out )?line [0-9]+ of its log,? (does not|or write it differently)", text)
+        self.assertEqual(self.fault(LOG + end()), "line 10 of its log does not agree with its call log")
 
     def test_what_is_not_so(self):
         for old, new, number in (
@@ -237,6 +238,10 @@ class Accounts(unittest.TestCase):
             self.assertIsNone(self.fault(*before, *[hold] * (most + clock), *after))
             fault = self.fault(*before, *[hold] * (most + clock + 1), *after)
             self.assertRegex(fault, f"line {at + most + clock + 1} of its call log is not a call that a referee makes there: . next cup-001 . hold")
+
+        # In each round it may wait again.
+        rounds = (CALL_LINES[1:4], [b"1\tnext cup-001 0\thold 0\n"] * (most + 7), CALL_LINES[6:11], [b"1\tnext cup-001 0\thold 1\n"] * (most + 6), CALL_LINES[11:])
+        self.assertIsNone(self.fault(head, *sum(rounds, [])))
 
     def test_a_history_has_a_greatest_length(self):
         with mock.patch.object(call_logs, "MOST_CALLS", len(CALL_LINES)):
