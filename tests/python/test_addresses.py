@@ -7,7 +7,7 @@ from unittest import mock
 
 import pytest
 from ggp_tools.competition import addresses
-from ggp_tools.competition.addresses import looked_up, mistakes_of_addresses, places_now, written
+from ggp_tools.competition.addresses import are_same, looked_up, mistakes_of_addresses, places_now, written
 from ggp_tools.competition.competition_file import read_competition
 from support import call, toml
 
@@ -33,6 +33,7 @@ def test_two_players_at_one_address(other):
     own = "are the same: 127.0.0.1, port"
     found = mistakes("127.0.0.1:9147", "127.0.0.1:9148", other)
     assert found == [(13, f"{other!r} and '127.0.0.1:9147', the address of p0, {own} {other.rpartition(':')[2]}")]
+    assert [are_same(other, f"127.0.0.1:{port}") for port in (9147, 9148)] == [True, False]
     assert mistakes(other, "127.0.0.1:9147")[0][1] == f"'127.0.0.1:9147' and {other!r}, the address of p0, {own} 9147"
 
 
@@ -60,7 +61,7 @@ def test_the_program_blames_players_at_the_addresses_that_plan_refuses():
 
 
 def test_names():
-    known = {"ann.example": ["10.0.0.1", "10.0.0.2"], "bob.example": ["10.0.0.2"], "cid.example": ["10.0.0.3"]}
+    known = {"ann.example": ["10.0.0.1", "10.0.0.2"], "bob.example": ["10.0.0.2"], "cid.example": ["10.0.0.3"], "dan.example": ["10.0.0.4", "224.0.0.1"]}
 
     def lookup(host, port, type, flags):
         if flags or host not in known:
@@ -70,6 +71,9 @@ def test_names():
     with mock.patch.object(addresses.socket, "getaddrinfo", lookup):
         words = "'bob.example:1' and 'ann.example:1', the address of p0, are the same: 10.0.0.2, port 1"
         assert mistakes("ann.example:1", "bob.example:1", "cid.example:1", "none.example:1", "other.example:1") == [(10, words)]
+        # A third player at an address shares it with the first one.
+        found = mistakes("ann.example:1", "bob.example:1", "bob.example:01", "dan.example:1")
+        assert found == [(10, words), (13, words.replace("bob.example:1", "bob.example:01").replace("port 1", "port 01")), (16, f"'dan.example:1': {MULTICAST}")]
 
 
 def test_a_place_is_written_for_the_referee():

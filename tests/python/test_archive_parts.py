@@ -307,6 +307,43 @@ class Checked(Made):
         self.assertIn("among the files of the competition", str(raised(Refused, command.archive_path, self.plan, str(self.folder / "rules/cup.tar.gz"))))
 
 
+class Commands(Made):
+    def ran(self, name, *words):
+        """Runs a command with the fake referee. Returns its exit status, and what it printed on standard error."""
+        with mock.patch("sys.stderr", io.StringIO()) as said, mock.patch("sys.stdout", io.StringIO()):
+            asked = command.arguments([name, *map(str, words)])
+            return int(asked.run(asked, self.referee)), said.getvalue()
+
+    def test_a_record_that_does_not_count_fails_each_command(self):
+        self.referee.wrong = {b'"cup-002"': "not lawful: goals"}
+        nothing = "ggp_competition: nothing was published: 1 match has no lawful record\n"
+        for name, *words in ("table",), ("pages",), ("publish", "--gaps"):
+            said = f"ggp_competition: cup-002 does not count: not lawful: goals\n{nothing * (name == 'publish')}"
+            self.assertEqual(self.ran(name, self.folder, *words), (1, said))
+        self.referee.wrong.clear()
+        for name in ("table", "pages", "publish"):
+            self.assertEqual(self.ran(name, self.folder), (0, ""))
+
+    def test_each_archive_is_checked(self):
+        self.publish()
+        wrong = self.room / "wrong.tar.gz"
+        wrong.write_bytes(without("cup/table.csv")(files_of(self.path)))
+        for paths in (self.path, wrong), (wrong, self.path):
+            self.assertEqual(self.ran("check", *paths), (1, f"ggp_competition: {wrong}: table.csv is missing\n"))
+        self.assertEqual(self.ran("check", self.path, self.path), (0, ""))
+        self.assertEqual(str(raised(Refused, self.ran, "check", self.path, self.room / "none")), f"{self.room / 'none'} does not exist")
+
+    def test_rounds_that_are_not_planned_are_gaps(self):
+        with mock.patch.object(command, "rounds_left", lambda _: 2), mock.patch.object(archive, "rounds_left", lambda _: 2):
+            said = "ggp_competition: nothing was published: 2 of 2 rounds are not planned yet; `--gaps` publishes without them\n"
+            self.assertEqual((self.ran("publish", self.folder), self.ran("publish", self.folder, "--gaps")), ((1, said), (0, "")))
+
+    def test_matches_without_logs_are_reported(self):
+        for name, said in (("cup-003", "cup-003 counts, but without times, because its log is missing"), ("cup-001", "2 matches from cup-001 to cup-003 count, but without times, because their logs are missing")):
+            self.plan.folder.log(name).unlink()
+            self.assertEqual(self.ran("table", self.folder), (0, f"ggp_competition: {said}\n"))
+
+
 class Rounds(Made):
     def test_rounds_that_were_not_planned_are_told(self):
         with mock.patch.object(archive, "rounds_left", lambda _: 2):

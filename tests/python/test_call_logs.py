@@ -85,6 +85,10 @@ class LogFaults(unittest.TestCase):
         lost = line_of(Other("lost", {"match": "cup-001", "time": 5, "reason": "gone"})).decode()
         self.assertEqual(published(f"Welcome\x1b[1m\n{before}{lost}{LOG}".encode(), "cup-001"), LOG.encode())
 
+    def test_a_match_that_was_given_up(self):
+        log = LOG.replace("(STOP cup-001 (noop noop))", "(ABORT cup-001)").replace("STOP", "ABORT")
+        self.assertIsNone(fault_of_run(MATCH, ROLES, last_run(io.BytesIO(log.encode()), MATCH.id), ACCOUNT.replace(b"stop (noop noop)", b"abort")))
+
     def test_a_line_that_no_account_says_is_not_published(self):
         events = (
             Other("absent", {"match": "cup-001", "role": 0, "player": "ann"}), Other("left_out", {"count": 3}), Host("cup-001", "h"), Open("cup-002", 1),
@@ -114,6 +118,7 @@ class LogFaults(unittest.TestCase):
         for at, text in enumerate(LINES):
             doubled = self.fault("".join([*LINES[: at + 1], *LINES[at:]]))
             self.assertRegex(doubled or "", "^(`publish` would leave out )?line [0-9]+ of its log,? (does not|or write it differently)", text)
+        self.assertEqual(self.fault(LOG + end()), "line 10 of its log does not agree with its call log")
 
     def test_what_is_not_so(self):
         for old, new, number in (
@@ -144,7 +149,7 @@ class LogFaults(unittest.TestCase):
     def test_only_an_error_has_a_reason_and_only_one_of_the_referee(self):
         for reason, is_sound in (
             (None, True), ("no connection", True), ("no answer in time: 17 of the head's bytes received", True), ("a read failed: ConnectionReset: nothing received", True),
-            ("the status is 404, not 200: 91 of the reply's bytes received", True), ("no answer in time: ann was seen cheating", False), ("", False), ("it cheated", False),
+            ("the status is 404, not 200: 91 of the reply's bytes received", True), ("no answer in time: ann was seen cheating", False), ("a read failed: Interrupted by ann", False), ("", False), ("it cheated", False),
         ):
             text = line(MATCH, 1, 1, "(START cup-001 (second 2) ... 5 6)", Missed(f"CE ({reason})")) if reason else LINES[2].replace('"no connection"', '""' if reason == "" else "null")
             self.assertEqual(self.fault("".join([*LINES[:2], text, *LINES[3:]])), None if is_sound else "line 3 of its log does not agree with its call log", reason)
@@ -233,6 +238,10 @@ class Accounts(unittest.TestCase):
             self.assertIsNone(self.fault(*before, *[hold] * (most + clock), *after))
             fault = self.fault(*before, *[hold] * (most + clock + 1), *after)
             self.assertRegex(fault, f"line {at + most + clock + 1} of its call log is not a call that a referee would make at this point: . next cup-001 . hold")
+
+        # In each round it may wait again.
+        rounds = (CALL_LINES[1:4], [b"1\tnext cup-001 0\thold 0\n"] * (most + 7), CALL_LINES[6:11], [b"1\tnext cup-001 0\thold 1\n"] * (most + 6), CALL_LINES[11:])
+        self.assertIsNone(self.fault(head, *sum(rounds, [])))
 
     def test_a_history_has_a_greatest_length(self):
         with mock.patch.object(call_logs, "MOST_CALLS", len(CALL_LINES)):

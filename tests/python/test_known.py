@@ -81,7 +81,7 @@ class Values(InCache):
     def test_a_file_runs_no_code(self):
         one = Known(self.folder)
         made = pathlib.Path(self.folder) / "made"
-        for data in (pickle.dumps(Made(made)), pickle.dumps([1]), b"no pickle"):
+        for data in (pickle.dumps(Made(made)), pickle.dumps({"lines": Known}), pickle.dumps({"lines": sum_of_parts}), pickle.dumps([1]), b"no pickle"):
             store("known", one.name, data, 1)
             self.assertEqual(Known(self.folder).before, {})
         store("known", one.name, pickle.dumps({"lines": pickle.dumps(Made(made))}), 1)

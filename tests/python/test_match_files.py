@@ -96,6 +96,9 @@ class Kept(unittest.TestCase):
     def test_just_so_many_bytes_are_checked_together(self):
         self.matches(300, 50, 50, 50, 100, 50)
         self.folder.account("cup-4").unlink()
+        # The logs are not checked.
+        self.folder.make(self.folder.logs)
+        self.folder.log("cup-1").write_bytes(b"x" * 201)
         found = batches(self.plan.matches, lambda match: size_of(self.folder.record(match.id), self.folder.account(match.id)))
         self.assertEqual([[match.id[-1] for match in batch] for batch in found], [["0"], ["1", "2"], ["3", "4"], ["5"]])
         self.assertEqual(list(batches([], size_of)), [])

@@ -95,6 +95,7 @@ class Files(unittest.TestCase):
         self.assertEqual(run(found, "m1"), [host, again, MISSED])
         self.assertEqual(run(found[:7], "m1"), [Host("m1", "one"), Open("m1", 5), MESSAGE])
         self.assertEqual((run(found, "m2"), run(found, "m3"), run([MESSAGE], "m1")), ([Open("m2", 10)], [], [MESSAGE]))
+        self.assertEqual(run([Open("m1", 5), MESSAGE, again], "m1"), [again])
         # Another role's START may be answered before the event of the first role.
         early = [MISSED, Open("m1", 5), MESSAGE]
         self.assertEqual([run(found, "m1") for found in (early, early * 2, [host, *early] * 2)], [early, early, [host, *early]])

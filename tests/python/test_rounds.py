@@ -263,6 +263,7 @@ class ByRounds(unittest.TestCase):
             (1, (2,), "void", "round 2 of 5: cup-005 to cup-006; bye: p1; withdrawn: p3 (absent in 1 whole round)"),
             # In round 2, p3 is absent in only one of its two matches.
             (2, (2, 1, 2), "keep", "round 4 of 5: cup-013 to cup-014; bye: p2; withdrawn: p3 (absent in 2 whole rounds)"),
+            (0, (2, 2), "keep", "round 3 of 5: cup-009 to cup-012"),
         ):
             self.setUp()
             self.write(4, SWISS.format(5), f'absent_rounds = {most}\nwithdrawn_results = "{results}"')

@@ -170,24 +170,23 @@ def has_sound_reason(message: Message) -> bool:
     return not parts or message.error is not None and all(part in REASONS or KIND.fullmatch(part) for part in parts)
 
 
-def is_confirmed(match: "Match", event: Event, asked: list[list[Exchange]], last: list[int]) -> bool:
-    """Returns whether an event agrees with the call log. Updates `last`, which has the number of each role's last message."""
+def is_confirmed(match: "Match", event: Event, asked: list[list[Exchange]]) -> bool:
+    """Returns whether a call log agrees with an event of a run."""
     if not isinstance(event, Message):
         return not isinstance(event, End) or event.kind in {exchange.kind for of_role in asked for exchange in of_role}
     role = event.role
-    if role >= len(asked) or event.player != match.players[role] or not last[role] < event.number <= len(asked[role]):
+    if role >= len(asked) or event.player != match.players[role] or event.number > len(asked[role]):
         return False
-    last[role] = event.number
     said = event.kind, event.round, event.message, event.answer, event.error
     return asked[role][event.number - 1] == said and has_sound_reason(event)
 
 
 def fault_of_run(match: "Match", roles: Sequence[str], run: Sequence[Event], account: bytes) -> str | None:
-    """Returns an error about the first line of a match log that the call log of the match does not confirm, or None."""
-    asked, last, has_end = exchanges(match, roles, account), [0] * len(roles), False
+    """Returns an error about the first line of a match log that the match's call log does not confirm, or None."""
+    asked, has_end = exchanges(match, roles, account), False
     for number, event in enumerate(run, 1):
         is_second = has_end and isinstance(event, End)
-        if is_second or not is_confirmed(match, event, asked, last):
+        if is_second or not is_confirmed(match, event, asked):
             return f"line {number} of its log does not agree with its call log"
         has_end = has_end or isinstance(event, End)
     return None
