@@ -50,7 +50,7 @@ impl fmt::Display for ContactFault {
             ContactFault::Exchange(fault, received) => write!(f, "{fault}: {received}"),
             ContactFault::Status(status) => {
                 let note = if status < 200 {
-                    "which announces an answer and is none"
+                    "which only announces an answer"
                 } else {
                     "not 200"
                 };

@@ -36,7 +36,7 @@ ESCAPED = re.compile(r"\\x([0-9a-f]{2})")
 # more word names the kind of failure.
 REASONS = {
     *("the host has no address", "no connection", "no answer in time", "the answers of the match are too long", "a write failed", "a read failed"),
-    *("the head is not valid HTTP", "the status is not N", "the status is N, not N", "the status is N, which announces an answer and is none"),
+    *("the head is not valid HTTP", "the status is not N", "the status is N, not N", "the status is N, which only announces an answer"),
     *("the body length is invalid", "the head or the body is too long", "the stream ended too early", "too many reads or writes"),
     *("out of memory", "no connection was made", "the request was not fully written", "nothing received", "N of the head's bytes received"),
     *("N of the body's N bytes received", "N of the body's bytes received, and no Content-Length", "N of the reply's bytes received"),
