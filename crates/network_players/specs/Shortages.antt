@@ -13,9 +13,9 @@ shortage_in [] number = None
 shortage_in (row ∷ rows) number = if number == row.0 then Some row.1 else shortage_in rows number
 
 -- Linux errors that only this computer causes, although their `ErrorKind` does not show this: EPERM (a firewall rule), ENFILE, EMFILE,
--- EAFNOSUPPORT and ENOBUFS.
+-- EAFNOSUPPORT, ECONNABORTED (the administrator ended the connection) and ENOBUFS.
 abbrev pub error_shortages : List (ℕ × Shortage)
-error_shortages = (1, Network) ∷ (23, Descriptors) ∷ (24, Descriptors) ∷ (97, Network) ∷ (105, Memory) ∷ []
+error_shortages = (1, Network) ∷ (23, Descriptors) ∷ (24, Descriptors) ∷ (97, Network) ∷ (103, Network) ∷ (105, Memory) ∷ []
 
 -- error numbers are above 0
 abbrev pub number_shortage : Option ℤ → Option Shortage

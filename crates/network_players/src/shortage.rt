@@ -18,6 +18,8 @@ fn error_shortage(number: u32) -> Option<Shortage>
         23 | 24 => Some(Shortage::Descriptors),
         // EAFNOSUPPORT.
         97 => Some(Shortage::Network),
+        // ECONNABORTED, from this computer's administrator.
+        103 => Some(Shortage::Network),
         // ENOBUFS.
         105 => Some(Shortage::Memory),
         _ => None,
