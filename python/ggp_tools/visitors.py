@@ -60,7 +60,7 @@ class Visitors:
         self.viewers: dict[Connection, None] = {}
 
     def most_of(self, client: str) -> int:
-        return self.most if client == THIS_COMPUTER else max(2, self.most // 8)
+        return self.most if client == THIS_COMPUTER else max(3, self.most // 8)
 
     def has_room_for(self, client: str) -> bool:
         """Returns whether one more connection of a client is served. If necessary, closes the oldest idle connection: this client's if the client has
@@ -93,8 +93,8 @@ class Visitors:
     @contextlib.contextmanager
     def viewing(self, connection: Connection) -> Iterator[bool]:
         """Yields whether a connection may stay open to get changes. The connection must end when it is no longer one of the viewers, because another
-        one replaced it. The last eighth of all connections, and of those of a client, is for loading pages."""
-        client, (most, own) = connection.client, (many - many // 8 for many in (self.most, self.most_of(connection.client)))
+        one replaced it. The last eighth of all connections, and of those of a client, is for loading pages, but at least one connection."""
+        client, (most, own) = connection.client, (many - max(1, many // 8) for many in (self.most, self.most_of(connection.client)))
         is_served = sum(viewer.client == client for viewer in self.viewers) < own
         if is_served and len(self.viewers) >= most:
             gone = one_for(client, self.viewers)

@@ -251,9 +251,10 @@ class Seats(unittest.TestCase):
 
     def test_rules_that_need_too_much_memory_end_the_match(self):
         text = f"(START M xplayer ({RULES}) 60 60)"
-        with mock.patch.object(seat, "game_of", side_effect=MemoryError):
-            self.assertEqual(self.seat.answer(text), "busy")
-        self.assertIn("they need too much memory", self.seat.view["note"])
+        for place, name in ((seat, "game_of"), (Shown, "picture")):
+            with mock.patch.object(place, name, side_effect=MemoryError):
+                self.assertEqual((self.seat.answer(text), self.seat.match), ("busy", ""))
+            self.assertIn("they need too much memory", self.seat.view["note"])
         self.begin()
         with mock.patch.object(self.seat.shown, "advance", side_effect=MemoryError):
             self.assertRaises(Unread, self.seat.answer, "(PLAY M ((mark 1 1) noop))")

@@ -773,6 +773,19 @@ class Events(Served):
         said = "".join(part.html() for part in page.parts)
         self.assertEqual(("error in" in said, "1 match is open" in said), (False, True))
 
+    def test_updates_go_on_although_nobody_reads_the_errors(self):
+        broken = Mock(write=Mock(side_effect=BrokenPipeError))
+        with patch.object(sys, "stderr", broken), patch.object(self.site.reader, "update", side_effect=KeyError):
+            self.look()
+        self.site.read_plan = Mock(side_effect=OSError(5, "x"))
+        self.plan.folder.schedule.write_text("another")
+        begin(self.plan, self.plan.matches[0])
+        with patch.object(sys, "stderr", broken):
+            self.look()
+        self.assertIn("1 match is open", self.page("/"))
+        with patch.object(sys, "stderr", broken), patch.object(self.site, "page", side_effect=KeyError):
+            self.assertEqual(self.ask("/")[0], 500)
+
     def test_a_match_that_ends_gets_its_other_page(self):
         match = self.plan.matches[0]
         begin(self.plan, match, started(match))

@@ -211,6 +211,19 @@ class Limits(Served):
         self.assertEqual([answer.status for answer in answers[8:]], [200, 503, 503])
         self.assertEqual(len(self.visitors.viewers), 7)
 
+    def test_streams_leave_a_connection_for_pages(self):
+        for most in (1, 3, 7, 16, 63, 256):
+            for clients in (["a"], map(str, itertools.count())):
+                visitors = http_server.Visitors(most, spares_busy=False)
+                with contextlib.ExitStack() as streams:
+                    for client, _ in zip(itertools.cycle(clients), range(2 * most)):
+                        connection = Mock(client=client, is_idle=False)
+                        if visitors.has_room_for(client):
+                            visitors.come(connection)
+                            if not streams.enter_context(visitors.viewing(connection)):
+                                visitors.go(connection)
+                    self.assertTrue(visitors.has_room_for(client), (most, client))
+
     def test_what_a_proxy_says_of_others_counts_only_from_this_computer(self):
         connection = Mock(client="192.0.2.1")
         self.assertTrue(http_server.Connection.is_served(connection, ["192.0.2.2"]))

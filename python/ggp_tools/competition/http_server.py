@@ -20,6 +20,7 @@ from ggp_tools.competition.live_api import FEED, METRICS, json_bytes, metrics_te
 from ggp_tools.competition.live_site import FIRST, LiveSite, OpenPage
 from ggp_tools.holding.game import MOST_CALLS
 from ggp_tools.human.server import is_own_name
+from ggp_tools.streams import report
 from ggp_tools.visitors import THIS_COMPUTER, Visitors, client_of, oldest_of_most
 
 Value = TypeVar("Value")
@@ -191,7 +192,7 @@ class Server:
             await self.on_site(self.site.fail, why)
             if repr(why) != self.reported:
                 self.reported = repr(why)
-                print(f"ggp_competition: can't update the pages: {self.reported}", file=sys.stderr)
+                report(f"ggp_competition: can't update the pages: {self.reported}")
         updated, self.updated = self.updated, asyncio.Event()
         updated.set()
 
@@ -235,7 +236,7 @@ class Server:
             request.protocol.end()
             raise
         except Exception as why:
-            print(f"ggp_competition: can't make the page {asked!r}: {why!r}", file=sys.stderr)
+            report(f"ggp_competition: can't make the page {asked!r}: {why!r}")
             return await self.send(request, HTTPStatus.INTERNAL_SERVER_ERROR)
 
     def note_answer(self, connection: Connection, answer: bytes) -> None:

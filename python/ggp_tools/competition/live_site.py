@@ -5,7 +5,6 @@ import contextlib
 import functools
 import itertools
 import re
-import sys
 import threading
 import time
 import typing
@@ -26,6 +25,7 @@ from ggp_tools.competition.table import Table, tables_of
 from ggp_tools.competition.table_text import in_order, json_text
 from ggp_tools.records.show import NoRecord, page_of, parts_of, read_record
 from ggp_tools.referee import NoReferee, Referee, Unchecked
+from ggp_tools.streams import report
 from ggp_tools.templating import page
 
 if typing.TYPE_CHECKING:
@@ -238,7 +238,7 @@ class LiveSite:
                 self.plans.append((live.clock(), self.read_plan()))
             except (Refused, NoReferee, Unchecked, OSError) as why:
                 # The person who runs `serve` gets the whole message.
-                print(f"ggp_competition: the plan has changed, but can't be read, so the pages show the previous one: {why}", file=sys.stderr)
+                report(f"ggp_competition: the plan has changed, but can't be read, so the pages show the previous one: {why}")
                 reason = reason_for_visitors(self.plan.folder, why)
                 self.plans.append((live.clock(), f"The plan has changed, but can't be read, so these pages show the previous plan: {reason}"))
         while self.plans and self.plans[0][0] <= live.clock() - self.delay.seconds:

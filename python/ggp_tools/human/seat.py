@@ -212,15 +212,15 @@ class Seat:
             own = spelled(role)
             if own not in shown.roles:
                 raise Refused(f"they have no role {own}")
+            with self.changed:
+                if self.asked != asked:
+                    return None
+                self.shown, self.role, self.play_clock, self.sent = shown, role, play_clock, None
+                self.match, self.receiver = match, receiver
+                self.show("ready", [], f"Match {match}: you are {own}.")
         except BAD_RULES as why:
             self.refuse(asked, f"A match was refused, since its rules can't be followed: {str(why) or OUT_OF_MEMORY}")
             return None
-        with self.changed:
-            if self.asked != asked:
-                return None
-            self.shown, self.role, self.play_clock, self.sent = shown, role, play_clock, None
-            self.match, self.receiver = match, receiver
-            self.show("ready", [], f"Match {match}: you are {own}.")
         return asked
 
     def refuse(self, asked: int, note: str) -> None:

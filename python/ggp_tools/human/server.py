@@ -267,7 +267,9 @@ class Server(ThreadingHTTPServer):
     def handle_error(self, request: socket.socket, client_address: tuple[str, int]) -> None:
         """Prints errors, except those of connections, because visitors can cause them."""
         if not isinstance(sys.exception(), OSError):
-            super().handle_error(request, client_address)
+            # Standard error may no longer have a reader.
+            with contextlib.suppress(OSError):
+                super().handle_error(request, client_address)
 
     @contextlib.contextmanager
     def reading(self, request: Request) -> Iterator[None]:
