@@ -2,6 +2,7 @@
 page's own script. The command refuses other files, and prints the reason."""
 
 import copy
+import io
 import json
 import pathlib
 import re
@@ -10,9 +11,10 @@ import subprocess
 import pytest
 from ggp_tools.printable import visible
 from ggp_tools.records import show
+from ggp_tools.records.record import NoRecord
 from browser import Browser
 from html_pages import links_of, parsed
-from support import GAMES, TOP, program
+from support import GAMES, TOP, program, raised
 
 # A match with each kind of error, which ends because both roles are retired.
 SCRIPT = """strict m 0 10 5 2 ann bob
@@ -257,3 +259,16 @@ def test_what_is_not_a_record_is_refused(record: dict | bytes, words: str) -> No
 def test_the_command_prints_a_page_or_one_line(text: bytes, result: tuple[int, bool, int]) -> None:
     ran = subprocess.run([TOP / "python/ggp-show-record"], input=text, capture_output=True)
     assert (ran.returncode, bool(ran.stdout), ran.stderr.count(b"\n")) == result
+
+
+def test_a_file_has_one_record_and_may_have_its_call_log(monkeypatch):
+    first, row = b'{"cause":%s}\n' % b"null".rjust(40), b"0\topen m 0 1 1 a b\topened\n"
+    monkeypatch.setattr(show, "LONGEST_RECORD", len(first) - 1)
+    for data in (first, first[:-1], b"{\n}\n"):
+        assert show.record_of(io.BytesIO(data)) == data
+    assert show.record_of(io.BytesIO(first + row * 3)) == first
+    for data, why in (
+        (first + row * 2 + b"x\n", f"line 4 is not a line of the record's call log. {show.ONE_RECORD}"), (first * 2, f"line 2 is another record. {show.ONE_RECORD}"),
+        (b" " + first, show.TOO_LONG), (b" " + first + row, show.TOO_LONG), (b"{\n" + b"x" * len(first), show.TOO_LONG),
+    ):
+        assert str(raised(NoRecord, show.record_of, io.BytesIO(data))) == why
