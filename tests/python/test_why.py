@@ -177,6 +177,7 @@ class Why(InFolder):
         explained = self.explained({"states": [["(heap 3)"]] * 6, "moves": [["noop", "noop"]] * 5, "errors": errors, "strikes": 2})
         said = [re.findall(r"turn \d in a row|so it is retired", explained.turn_text(0, turn, "")) for turn in range(5)]
         self.assertEqual(said, [[], [], [], ["turn 2 in a row", "so it is retired"], ["turn 3 in a row"]])
+        self.assertEqual(explained.turn_text(0, 5, "noop"), "the match was given up before that turn was played")
 
     def test_a_player_with_the_name_of_a_match(self):
         lines = [
