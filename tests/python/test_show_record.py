@@ -92,6 +92,7 @@ def parts_of(record: dict) -> tuple[dict, dict]:
         "substituted moves": len(shown.select("td.substituted")),
         "roles": [row[1] for row in players_rows],
         "players": [row[2] for row in players_rows],
+        "goals, replaced moves and marks": [row[3:] for row in players_rows],
         "states": [state["id"] for state in shown.select("section.state")],
         "terms": on_boards + len(shown.select("li:not(.gone)")),
         "titles": [title.text for title in shown.select("section.state h2")],
@@ -113,6 +114,10 @@ def parts_of(record: dict) -> tuple[dict, dict]:
         "substituted moves": len(errors),
         "roles": roles,
         "players": players,
+        "goals, replaced moves and marks": [
+            [str(goal), str(sum(turn[at] != "" for turn in record["errors"])), *("none" if marks[at] is None else marks[at] or "answered" for marks in (record["startMarks"], record["endMarks"]))]
+            for at, goal in enumerate(record["goalValues"] or ["none"] * len(players))
+        ],
         "states": [f"turn={at}" for at in range(len(record["states"]))],
         "terms": sum(map(len, record["states"])) - sum(map(len, turns)),
         "titles": [f"{f'After turn {at}' if at else 'Before turn 1'}{words}" for at, words in enumerate(said)],
@@ -259,6 +264,11 @@ def test_what_is_not_a_record_is_refused(record: dict | bytes, words: str) -> No
 def test_the_command_prints_a_page_or_one_line(text: bytes, result: tuple[int, bool, int]) -> None:
     ran = subprocess.run([TOP / "python/ggp-show-record"], input=text, capture_output=True)
     assert (ran.returncode, bool(ran.stdout), ran.stderr.count(b"\n")) == result
+
+
+def test_whose_turn_a_state_says_it_is() -> None:
+    states = [], ["(control blue)"], ["(turn red)", "(control red)"], ["(control red)", "(control blue)"], ["(control red blue)"], ["(control eve)"]
+    assert [show.mover_of(state, ["red", "blue"]) for state in states] == [None, 1, 0, None, None, None]
 
 
 def test_a_file_has_one_record_and_may_have_its_call_log(monkeypatch):
