@@ -271,6 +271,29 @@ def test_whose_turn_a_state_says_it_is() -> None:
     assert [show.mover_of(state, ["red", "blue"]) for state in states] == [None, 1, 0, None, None, None]
 
 
+@pytest.mark.parametrize("phase, cause, said", [
+    ("finished", None, "It ended by the rules."), ("aborted", "nolegal 1", "It was given up: role 1 (blue) has no legal move."),
+    ("aborting", "asked", "It is being given up, but not every role has answered ABORT: an abort was asked for."),
+])
+def test_how_a_match_ended(phase: str, cause: str | None, said: str) -> None:
+    assert show.ending({"phase": phase, "cause": cause, "roles": ["red", "blue"], "players": ["ann", "bob"]}) == said
+
+
+def test_what_was_in_the_state_before_is_gone() -> None:
+    states = [["(step 1)", "(x)"], ["(step 2)", "(x)"], []]
+    assert [(state["terms"], state["gone"]) for state in show.states_of_page(states, [])] == [(states[0], []), (states[1], ["(step 1)"]), ([], ["(step 2)", "(x)"])]
+
+
+def test_the_ground_of_a_board_is_on_more_than_half_of_all_places() -> None:
+    state = ["(cell 1 1 b)", "(cell 1 2 b)", "(cell 2 1 b)", "(cell 2 2 x)"]
+    (board,) = show.boards_of([state])
+    assert [show.ground_of(board, show.board_places(board, own)) for own in (state, ["(cell 1 1 x)", *state[1:]], state[:3])] == ["b", None, None]
+
+
+def test_an_axis_has_2_to_32_places() -> None:
+    assert [bool(show.axis_of([str(place) for place in range(1, most + 1)])) for most in (1, 2, 32, 33)] == [False, True, True, False]
+
+
 def test_a_file_has_one_record_and_may_have_its_call_log(monkeypatch):
     first, row = b'{"cause":%s}\n' % b"null".rjust(40), b"0\topen m 0 1 1 a b\topened\n"
     monkeypatch.setattr(show, "LONGEST_RECORD", len(first) - 1)

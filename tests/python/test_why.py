@@ -3,6 +3,7 @@
 import re
 import shutil
 import time
+import types
 from dataclasses import replace
 
 from ggp_tools.competition.why import Explanation
@@ -173,11 +174,14 @@ class Why(InFolder):
             self.assertEqual(self.explained({"states": states}).illegal_text(0, 0, "IL noop", "noop"), "")
 
     def test_turns_in_a_row_without_a_move_of_its_own(self):
-        errors = [["TO", ""], ["", ""], ["TO", ""], ["TO", ""], ["RT", ""]]
-        explained = self.explained({"states": [["(heap 3)"]] * 6, "moves": [["noop", "noop"]] * 5, "errors": errors, "strikes": 2})
+        errors = [["TO", ""], ["", ""], ["TO", ""], ["TO", ""], ["RT", ""], ["RT", ""]]
+        explained = self.explained({"states": [["(heap 3)"]] * 7, "moves": [["noop", "noop"]] * 6, "errors": errors, "strikes": 2, "goalValues": [], "cause": "asked"})
         said = [re.findall(r"turn \d in a row|so it is retired", explained.turn_text(0, turn, "")) for turn in range(5)]
         self.assertEqual(said, [[], [], [], ["turn 2 in a row", "so it is retired"], ["turn 3 in a row"]])
-        self.assertEqual(explained.turn_text(0, 5, "noop"), "the match was given up before that turn was played")
+        explained.result = types.SimpleNamespace(forfeits=dict)
+        retired = "turns 5 to 6: RT: not asked, since it is retired; its first legal moves were played"
+        self.assertEqual(explained.outcome(0), [retired, "no goal, since the match was given up: asked; 5 of 6 moves replaced"])
+        self.assertEqual(explained.turn_text(0, 6, "noop"), "the match was given up before that turn was played")
 
     def test_a_player_with_the_name_of_a_match(self):
         lines = [
