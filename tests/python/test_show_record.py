@@ -279,6 +279,12 @@ def test_how_a_match_ended(phase: str, cause: str | None, said: str) -> None:
     assert show.ending({"phase": phase, "cause": cause, "roles": ["red", "blue"], "players": ["ann", "bob"]}) == said
 
 
+def test_which_moves_are_those_of_a_role_that_waits() -> None:
+    for mover, error, wanted in ((1, "", [True, False]), (0, "", [False, True]), (None, "", [False, False]), (1, "TO", [False, False])):
+        moves = ["noop", "(mark 1)" if mover != 0 else "noop"]
+        assert [move["is_idle"] for move in show.turn_of_page(moves, [error, ""], mover, lambda *_: "")] == wanted, (mover, error)
+
+
 def test_what_was_in_the_state_before_is_gone() -> None:
     states = [["(step 1)", "(x)"], ["(step 2)", "(x)"], []]
     assert [(state["terms"], state["gone"]) for state in show.states_of_page(states, [])] == [(states[0], []), (states[1], ["(step 1)"]), ([], ["(step 2)", "(x)"])]

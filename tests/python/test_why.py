@@ -152,8 +152,16 @@ class Why(InFolder):
         log = line(match, 0, 1, f"(START {match.id})", SILENT) + log + line(match, 1, 6, f"(STOP {match.id} NIL)", SILENT)
         errors = [["", ""], ["", ""], ["TO", "CE"], ["", "IL ?"]]
         record = record_of(match, [["to", "noop"], ["lost", "ce"], ["noop", "noop"], ["il", "noop"]], errors, [0, 100])
-        end(plan, match, record | {"startMarks": ["TO", ""], "endMarks": ["", "TO"]}, log)
+        before = line(match, 0, 1, f"(START {match.id})", "ready") + line(match, 0, 2, f"(PLAY {match.id} NIL)", "before")
+        end(plan, match, record | {"startMarks": ["TO", ""], "endMarks": ["", "TO"]}, before + log)
+        # Because there is a record, a log that an interrupted `play` has left does not count.
+        left = plan.folder.room_log(match.id)
+        left.parent.mkdir(parents=True)
+        left.write_text(log.replace("lost", "left"))
         said = "\n".join(Explanation(plan, match).lines(["ann", "bob"]))
+        self.assertIn("; 20 s for START, 30 s for each other message\n", said)
+        # What was played follows from the last run.
+        self.assertIn("turn 1: PLAY was answered `before` after 5 ms. Message 2: (PLAY", said)
         for words in ("turn 1: PLAY was answered `TO` after", "turn 2: PLAY was answered `lost` after", "turn 2: PLAY was answered `CE` after"):
             self.assertIn(words, said)
         for message, seconds in (("START", 20), ("turn 3: PLAY", 30), ("STOP", 30)):
