@@ -149,6 +149,8 @@ class Why(InFolder):
         match = plan.matches[0]
         answers = [("TO", "noop"), ("lost", "CE"), (SILENT, Missed("CE (no connection)")), ("IL", str(SILENT))]
         log = "".join(line(match, role, number, f"(PLAY {match.id} NIL)", answer) for number, pair in enumerate(answers, 2) for role, answer in enumerate(pair))
+        # A role that the game does not have is left out.
+        log += line(replace(match, players=(*match.players, "eve")), 2, 1, f"(START {match.id})", "ready")
         log = line(match, 0, 1, f"(START {match.id})", SILENT) + log + line(match, 1, 6, f"(STOP {match.id} NIL)", SILENT)
         errors = [["", ""], ["", ""], ["TO", "CE"], ["", "IL ?"]]
         record = record_of(match, [["to", "noop"], ["lost", "ce"], ["noop", "noop"], ["il", "noop"]], errors, [0, 100])
@@ -190,6 +192,7 @@ class Why(InFolder):
         retired = "turns 5 to 6: RT: not asked, since it is retired; its first legal moves were played"
         self.assertEqual(explained.outcome(0), [retired, "no goal, since the match was given up: asked; 5 of 6 moves replaced"])
         self.assertEqual(explained.turn_text(0, 6, "noop"), "the match was given up before that turn was played")
+        self.assertEqual(self.explained(withdrawn="bob has withdrawn").outcome(0), ["the match is not played: bob has withdrawn"])
 
     def test_a_player_with_the_name_of_a_match(self):
         lines = [
