@@ -215,4 +215,5 @@ class Rules(InArchive):
                 found = read_competition(text)
                 self.assertEqual((found.form.kind, found.form.rounds, found.form.one, found.form.final, found.start, found.play), wanted)
                 self.assertEqual((found.name, b"absent_rounds" in text), ("cup" if "--name" in words else self.folder.name, found.form.kind in ("swiss", "knockout")))
+                self.assertTrue(all(game.file.startswith("../") for game in found.games))
                 self.assertEqual([(self.folder / game.file).resolve() for game in found.games], [GAMES / f"{name}.kif" for name in ("tictactoe", "countdown", "general/hex")])
