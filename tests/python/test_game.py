@@ -11,7 +11,7 @@ from unittest.mock import Mock
 
 import pytest
 
-from ggp_tools.competition.game import aborted_line
+from ggp_tools.competition.game import aborted_line, report_figures
 from ggp_tools.descriptions.goals import goals_said
 from ggp_tools.descriptions.suspicious import suspicions
 from support import COMMAND, GAMES, InFolder, program, program_but, run, run_into_full
@@ -258,6 +258,13 @@ class Game(InFolder):
         for count, seeds in ((1, "seed 1"), (10, "seeds 1, 2, 3, 4, 5, 6, 7, 8, 9, 10"), (11, "seeds 1, 2, 3, 4, 5, 6, 7, 8, 9, 10, ..")):
             ended = [Mock(seed=seed, turns=0, state=[]) for seed in range(1, count + 1)]
             self.assertEqual(aborted_line("nogoal ann", ended), f"aborted with `nogoal ann`: {count}, {seeds}; after turn 0 of seed 1 the state is empty")
+
+    def test_each_role_has_its_figures(self):
+        kinds, lines = ((2, [100, 0], [1, 3]), (4, [50, 50], [2, 1]), (3, [], [1, 1])), []
+        report_figures(Mock(line=lines.append), ("ann", "bob"), [Mock(turns=turns, goals=goals, choices=choices) for turns, goals, choices in kinds])
+        self.assertEqual(lines, ["turns of a match: 2 to 4, on average 3.0", *(
+            f"{role}: goals {goals}; most legal moves at once: {most}" for role, goals, most in (("ann", "50 to 100, on average 75.0", 2), ("bob", "0 to 50, on average 25.0", 3))
+        )])
 
     def test_the_goals_of_a_state(self):
         goals = "(<= (goal ann ?x) (true (won ?x)))\n(goal bob 5) (goal (o 1) 5)"

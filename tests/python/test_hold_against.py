@@ -1,6 +1,7 @@
 """`ggp-hold-against`, run in this process: its arguments, its limits of time and memory, and its result for each record."""
 
 import gzip
+import io
 import json
 import resource
 import signal
@@ -111,3 +112,12 @@ class Streams(InFolder):
         for file, data in zip(files, (b"a\n\n \n b\n", b"", gzip.compress(b"c"))):
             file.write_bytes(data)
         self.assertEqual(list(records_in(map(str, files))), [b"a\n", b" b\n", b"c"])
+
+    def test_a_record_that_differs_decides_the_status_and_each_has_the_given_seconds(self):
+        description, records = self.folder / "d", self.folder / "r"
+        description.write_text(ONE_TURN)
+        for lines, status in (([RECORD], SAME), ([WRONG, RECORD], NOT_FOLLOWED), ([OTHER, WRONG], DIFFERENT), ([WRONG, OTHER], DIFFERENT)):
+            records.write_text("\n".join(lines))
+            with mock.patch("sys.stdout", io.StringIO()), mock.patch.object(command, "limited", wraps=command.limited) as limits:
+                self.assertEqual(command.perform(types.SimpleNamespace(description=str(description), records=[str(records)], seconds=7)), status)
+            self.assertEqual({call.args for call in limits.call_args_list}, {(7,)})

@@ -5,6 +5,7 @@ import json
 import subprocess
 import sys
 import unittest
+from dataclasses import replace
 from unittest.mock import patch
 
 from ggp_tools import match_log
@@ -105,7 +106,9 @@ class Texts(unittest.TestCase):
     def test_a_message_in_one_line(self):
         self.assertEqual(text_of(MESSAGE), "m1 role 0 ann message 3 (PLAY m1 (a b)): a, 12 ms")
         said = "m1 role 1 bob message 1 (START m1 blue ... 5 5): TO (no answer in time: nothing received), 5000 ms"
-        self.assertEqual(text_of(MISSED), said)
+        self.assertEqual([text_of(MISSED), text_of(replace(MISSED, reason=None))], [said, said.replace(" (no answer in time: nothing received)", "")])
+        long = replace(MESSAGE, message="x" * 200, answer="y" * 201)
+        self.assertEqual(text_of(long), f"m1 role 0 ann message 3 {'x' * 200}: {'y' * 200}.., 12 ms")
 
     def test_other_events(self):
         self.assertEqual(list(map(text_of, OTHERS)), [

@@ -190,6 +190,13 @@ class Lines(unittest.TestCase):
 class Words(WithStandIn):
     MATCH = Match("cup-1", "nim", 10, 5, ("ann", "bob"))
 
+    def test_the_replies_of_the_desk_and_the_record(self):
+        self.answers(b'opened\ntaken\n{"a":1}\n')
+        self.assertEqual(self.referee.desk("game.kif", b"open\n"), (["opened", "taken"], {"a": 1}))
+        self.assertEqual(self.asked(), (["desk", "--rules-file=game.kif"], b"open\n"))
+        for said, *answer in (("read fault; it ended with status 2", b'{"a":1}\n', b"ggp_manager: read fault\n", 2), ("it printed nothing; it ended with status 0", b"opened\n")):
+            self.assert_unchecked(f"`ggp_manager desk` gave no verdict for game.kif: {said}", lambda: self.referee.desk("game.kif", b""), *answer)
+
     def test_the_words_of_each_command(self):
         path = self.referee.path
         self.assertEqual(self.referee.abort_words("cup-1", "ann@h:1"), [path, "abort", "--", "cup-1", "ann@h:1"])

@@ -196,3 +196,24 @@ class Rules(InArchive):
             write_first_file(asked)
         texts = (self.folder / "asked/cup/competition.toml").read_text(), first.replace("final = 2\n", "")
         self.assertEqual(*(re.sub(r"(\.\./)+", "", text) for text in texts))
+
+    def test_what_the_options_write(self):
+        players = ["--players", "ann=h:1, bob=h:2"]
+        for words, players, wanted in (
+            (["--gauntlet", "ann", "--start", "7", "--play", "3"], players, ("gauntlet", 1, "ann", 0, 7, 3)), (["--round-robin", "2"], players, ("round_robin", 2, "", 0, 10, 5)),
+            (["--swiss", "3", "--final", "2"], players, ("swiss", 3, "", 2, 10, 5)), (["--knockout", "--name", "cup"], players, ("knockout", 1, "", 0, 10, 5)),
+            # Without players, you add them to the file later.
+            (["--gauntlet", "ann"], [], None), (["--swiss", "3", "--final", "2"], [], None), (["--gauntlet", "eve"], players, "form.one: there is no player 'eve'"),
+        ):
+            self.new_folder()
+            asked = arguments(["init", str(self.folder), "--games", f"tictactoe,{GAMES / 'countdown.kif'},hex", *words, *players])
+            if isinstance(wanted, str):
+                self.assertIn(wanted, str(raised(Refused, write_first_file, asked)))
+                continue
+            text = write_first_file(asked).read_bytes()
+            if wanted:
+                found = read_competition(text)
+                self.assertEqual((found.form.kind, found.form.rounds, found.form.one, found.form.final, found.start, found.play), wanted)
+                self.assertEqual((found.name, b"absent_rounds" in text), ("cup" if "--name" in words else self.folder.name, found.form.kind in ("swiss", "knockout")))
+                self.assertTrue(all(game.file.startswith("../") for game in found.games))
+                self.assertEqual([(self.folder / game.file).resolve() for game in found.games], [GAMES / f"{name}.kif" for name in ("tictactoe", "countdown", "general/hex")])

@@ -2,6 +2,7 @@
 nothing, and runs only the page's own script. The command refuses other files, and prints the reason."""
 
 import copy
+import io
 import json
 import pathlib
 import re
@@ -10,9 +11,10 @@ import subprocess
 import pytest
 from ggp_tools.printable import visible
 from ggp_tools.records import show
+from ggp_tools.records.record import NoRecord
 from browser import Browser
 from html_pages import links_of, parsed
-from support import GAMES, TOP, program
+from support import GAMES, TOP, program, raised
 
 # A match with each kind of error, which ends because both roles are retired.
 SCRIPT = """strict m 0 10 5 2 ann bob
@@ -90,6 +92,7 @@ def parts_of(record: dict) -> tuple[dict, dict]:
         "substituted moves": len(shown.select("td.substituted")),
         "roles": [row[1] for row in players_rows],
         "players": [row[2] for row in players_rows],
+        "goals, replaced moves and marks": [row[3:] for row in players_rows],
         "states": [state["id"] for state in shown.select("section.state")],
         "terms": on_boards + len(shown.select("li:not(.gone)")),
         "titles": [title.text for title in shown.select("section.state h2")],
@@ -111,6 +114,10 @@ def parts_of(record: dict) -> tuple[dict, dict]:
         "substituted moves": len(errors),
         "roles": roles,
         "players": players,
+        "goals, replaced moves and marks": [
+            [str(goal), str(sum(turn[at] != "" for turn in record["errors"])), *("none" if marks[at] is None else marks[at] or "answered" for marks in (record["startMarks"], record["endMarks"]))]
+            for at, goal in enumerate(record["goalValues"] or ["none"] * len(players))
+        ],
         "states": [f"turn={at}" for at in range(len(record["states"]))],
         "terms": sum(map(len, record["states"])) - sum(map(len, turns)),
         "titles": [f"{f'After turn {at}' if at else 'Before turn 1'}{words}" for at, words in enumerate(said)],
@@ -257,3 +264,50 @@ def test_what_is_not_a_record_is_refused(record: dict | bytes, words: str) -> No
 def test_the_command_prints_a_page_or_one_line(text: bytes, result: tuple[int, bool, int]) -> None:
     ran = subprocess.run([TOP / "python/ggp-show-record"], input=text, capture_output=True)
     assert (ran.returncode, bool(ran.stdout), ran.stderr.count(b"\n")) == result
+
+
+def test_whose_turn_a_state_says_it_is() -> None:
+    states = [], ["(control blue)"], ["(turn red)", "(control red)"], ["(control red)", "(control blue)"], ["(control red blue)"], ["(control eve)"]
+    assert [show.mover_of(state, ["red", "blue"]) for state in states] == [None, 1, 0, None, None, None]
+
+
+@pytest.mark.parametrize("phase, cause, said", [
+    ("finished", None, "It ended by the rules."), ("aborted", "nolegal 1", "It was given up: role 1 (blue) has no legal move."),
+    ("aborting", "asked", "It is being given up, but not every role has answered ABORT: an abort was asked for."),
+])
+def test_how_a_match_ended(phase: str, cause: str | None, said: str) -> None:
+    assert show.ending({"phase": phase, "cause": cause, "roles": ["red", "blue"], "players": ["ann", "bob"]}) == said
+
+
+def test_which_moves_are_those_of_a_role_that_waits() -> None:
+    for mover, error, wanted in ((1, "", [True, False]), (0, "", [False, True]), (None, "", [False, False]), (1, "TO", [False, False])):
+        moves = ["noop", "(mark 1)" if mover != 0 else "noop"]
+        assert [move["is_idle"] for move in show.turn_of_page(moves, [error, ""], mover, lambda *_: "")] == wanted, (mover, error)
+
+
+def test_what_was_in_the_state_before_is_gone() -> None:
+    states = [["(step 1)", "(x)"], ["(step 2)", "(x)"], []]
+    assert [(state["terms"], state["gone"]) for state in show.states_of_page(states, [])] == [(states[0], []), (states[1], ["(step 1)"]), ([], ["(step 2)", "(x)"])]
+
+
+def test_the_ground_of_a_board_is_on_more_than_half_of_all_places() -> None:
+    state = ["(cell 1 1 b)", "(cell 1 2 b)", "(cell 2 1 b)", "(cell 2 2 x)"]
+    (board,) = show.boards_of([state])
+    assert [show.ground_of(board, show.board_places(board, own)) for own in (state, ["(cell 1 1 x)", *state[1:]], state[:3])] == ["b", None, None]
+
+
+def test_an_axis_has_2_to_32_places() -> None:
+    assert [bool(show.axis_of([str(place) for place in range(1, most + 1)])) for most in (1, 2, 32, 33)] == [False, True, True, False]
+
+
+def test_a_file_has_one_record_and_may_have_its_call_log(monkeypatch):
+    first, row = b'{"cause":%s}\n' % b"null".rjust(40), b"0\topen m 0 1 1 a b\topened\n"
+    monkeypatch.setattr(show, "LONGEST_RECORD", len(first) - 1)
+    for data in (first, first[:-1], b"{\n}\n"):
+        assert show.record_of(io.BytesIO(data)) == data
+    assert show.record_of(io.BytesIO(first + row * 3)) == first
+    for data, why in (
+        (first + row * 2 + b"x\n", f"line 4 is not a line of the record's call log. {show.ONE_RECORD}"), (first * 2, f"line 2 is another record. {show.ONE_RECORD}"),
+        (b" " + first, show.TOO_LONG), (b" " + first + row, show.TOO_LONG), (b"{\n" + b"x" * len(first), show.TOO_LONG),
+    ):
+        assert str(raised(NoRecord, show.record_of, io.BytesIO(data))) == why

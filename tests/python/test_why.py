@@ -3,6 +3,7 @@
 import re
 import shutil
 import time
+import types
 from dataclasses import replace
 
 from ggp_tools.competition.why import Explanation
@@ -148,11 +149,21 @@ class Why(InFolder):
         match = plan.matches[0]
         answers = [("TO", "noop"), ("lost", "CE"), (SILENT, Missed("CE (no connection)")), ("IL", str(SILENT))]
         log = "".join(line(match, role, number, f"(PLAY {match.id} NIL)", answer) for number, pair in enumerate(answers, 2) for role, answer in enumerate(pair))
+        # A role that the game does not have is left out.
+        log += line(replace(match, players=(*match.players, "eve")), 2, 1, f"(START {match.id})", "ready")
         log = line(match, 0, 1, f"(START {match.id})", SILENT) + log + line(match, 1, 6, f"(STOP {match.id} NIL)", SILENT)
         errors = [["", ""], ["", ""], ["TO", "CE"], ["", "IL ?"]]
         record = record_of(match, [["to", "noop"], ["lost", "ce"], ["noop", "noop"], ["il", "noop"]], errors, [0, 100])
-        end(plan, match, record | {"startMarks": ["TO", ""], "endMarks": ["", "TO"]}, log)
+        before = line(match, 0, 1, f"(START {match.id})", "ready") + line(match, 0, 2, f"(PLAY {match.id} NIL)", "before")
+        end(plan, match, record | {"startMarks": ["TO", ""], "endMarks": ["", "TO"]}, before + log)
+        # Because there is a record, a log that an interrupted `play` has left does not count.
+        left = plan.folder.room_log(match.id)
+        left.parent.mkdir(parents=True)
+        left.write_text(log.replace("lost", "left"))
         said = "\n".join(Explanation(plan, match).lines(["ann", "bob"]))
+        self.assertIn("; 20 s for START, 30 s for each other message\n", said)
+        # What was played follows from the last run.
+        self.assertIn("turn 1: PLAY was answered `before` after 5 ms. Message 2: (PLAY", said)
         for words in ("turn 1: PLAY was answered `TO` after", "turn 2: PLAY was answered `lost` after", "turn 2: PLAY was answered `CE` after"):
             self.assertIn(words, said)
         for message, seconds in (("START", 20), ("turn 3: PLAY", 30), ("STOP", 30)):
@@ -173,10 +184,15 @@ class Why(InFolder):
             self.assertEqual(self.explained({"states": states}).illegal_text(0, 0, "IL noop", "noop"), "")
 
     def test_turns_in_a_row_without_a_move_of_its_own(self):
-        errors = [["TO", ""], ["", ""], ["TO", ""], ["TO", ""], ["RT", ""]]
-        explained = self.explained({"states": [["(heap 3)"]] * 6, "moves": [["noop", "noop"]] * 5, "errors": errors, "strikes": 2})
+        errors = [["TO", ""], ["", ""], ["TO", ""], ["TO", ""], ["RT", ""], ["RT", ""]]
+        explained = self.explained({"states": [["(heap 3)"]] * 7, "moves": [["noop", "noop"]] * 6, "errors": errors, "strikes": 2, "goalValues": [], "cause": "asked"})
         said = [re.findall(r"turn \d in a row|so it is retired", explained.turn_text(0, turn, "")) for turn in range(5)]
         self.assertEqual(said, [[], [], [], ["turn 2 in a row", "so it is retired"], ["turn 3 in a row"]])
+        explained.result = types.SimpleNamespace(forfeits=dict)
+        retired = "turns 5 to 6: RT: not asked, since it is retired; its first legal moves were played"
+        self.assertEqual(explained.outcome(0), [retired, "no goal, since the match was given up: asked; 5 of 6 moves replaced"])
+        self.assertEqual(explained.turn_text(0, 6, "noop"), "the match was given up before that turn was played")
+        self.assertEqual(self.explained(withdrawn="bob has withdrawn").outcome(0), ["the match is not played: bob has withdrawn"])
 
     def test_a_player_with_the_name_of_a_match(self):
         lines = [

@@ -118,7 +118,7 @@ def candidates(record: dict, games: list[KnownGame]) -> list[KnownGame]:
     fitting = [game for game in games if list(game.roles) == roles]
     first = states[0] if isinstance(states, list) and states and isinstance(states[0], list) else []
     terms = {term for term in first if isinstance(term, str)}
-    return sorted(fitting, key=lambda game: (list(game.first) != first, len(terms ^ set(game.first))))
+    return sorted(fitting, key=lambda game: len(terms.symmetric_difference(game.first)))
 
 
 def line_of(file: str, number: int, data: bytes) -> Line:
