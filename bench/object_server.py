@@ -1,5 +1,5 @@
-"""A server for the calls of `bench/service`, made of asyncio and Python objects. It does the same as the server in service.rs. It prints
-its address."""
+"""A server that answers the calls of `bench/service`, written with asyncio and Python objects. It answers them as the server in service.rs
+does. It prints the address on which it listens."""
 
 import asyncio
 

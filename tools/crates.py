@@ -26,7 +26,7 @@ def crate_rows():
 
 
 def own_deps(found):
-    """Returns each crate with the crates of the same text that it uses."""
+    """Returns, for each crate in `found`, the crates that it uses and that are also in `found`."""
     return {name: [dep for dep in deps if dep in found] for name, (_, deps) in found.items()}
 
 

@@ -41,7 +41,7 @@ def paragraphs(text: str) -> list[list[str]]:
 
 
 def entries(lines: list[str]) -> list[tuple[str, str]]:
-    """Returns the arguments of a list with their descriptions."""
+    """Returns each argument that these help lines list, with its description."""
     matches = [ENTRY.fullmatch(line) for line in lines]
     return [(entry[1], entry[2] or "") for entry in matches if entry]
 

@@ -84,7 +84,7 @@ class Read(unittest.TestCase):
         lines = ["i0.\n"] * 3
         self.assertEqual(len(list(self.grounder.read(lines))), 3)
         why = raised(TooMany, lambda: list(self.grounder.read(["p0.\n", *lines, "i0.\n"])))
-        self.assertEqual((str(why), gringo.MOST_INSTANCES), ("there are more than 3 instances", 1_000_000))
+        self.assertEqual((str(why), gringo.MOST_INSTANCES), ("there are more than 3 ground rules", 1_000_000))
 
     def test_a_line_that_was_not_ended_is_no_instance(self):
         self.assertEqual(list(self.grounder.read(["i0.\n", 'i0("a"'])), [(0, [])])

@@ -35,7 +35,7 @@ class Histories(unittest.TestCase):
         self.assertEqual((read_key(self.folder, counted), read_key(self.folder, random)), (b"", b"0123456789abcdef" * 2 + b"\n"))
         for wrong in (b"", b"0" * 31 + b"\n", b"0" * 32, b"0" * 33 + b"\n", b"G" * 32 + b"\n"):
             self.folder.key.write_bytes(wrong)
-            self.assertEqual(str(raised(Refused, read_key, self.folder, random)), f"{self.folder.key} is not what `ggp_competition plan` writes")
+            self.assertEqual(str(raised(Refused, read_key, self.folder, random)), f"{self.folder.key} is damaged: restore it from a backup: the ids of the matches follow from it")
 
     def test_the_seeds_are_the_order_of_a_table(self):
         competition, table = read_competition(toml([(name, f"{name}:1") for name in ("ann", "bob", "cid", "dan")], [("nim", "f")]).encode()), self.folder.seeds

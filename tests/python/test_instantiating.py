@@ -316,7 +316,7 @@ class Texts(unittest.TestCase):
         text = "(role r) (d 1) (d 2) (d 3) (<= (legal r (m ?a ?b)) (d ?a) (d ?b)) (init s)"
         first, second = (making.Making(text, 60, making.NEVER) for _ in range(2))
         with unittest.mock.patch.object(gringo, "MOST_INSTANCES", 5):
-            self.assertRegex(str(raised(Refused, first.run)), "^there are more than 5 instances; the most instances, ")
+            self.assertRegex(str(raised(Refused, first.run)), "^there are more than 5 ground rules; the most ground rules, ")
         with unittest.mock.patch.object(making, "all_rules", lambda *_: signal.raise_signal(signal.SIGPROF)):
             self.assertEqual(str(raised(Refused, second.run)), "stopped after 60 s, reading it")
 
@@ -326,8 +326,8 @@ class Texts(unittest.TestCase):
             said = str(raised(Refused, making.Making((GAMES / "general/hex.kif").read_text(), 60, making.WHERE_NEEDED).run))
         self.assertTrue(said.startswith("nothing is written, because this exceeds the limit however it is factored: sentences (at least "), said)
         self.assertIn(" ground sentences, because 2 cycles of sentences are unrolled, the largest, of 25 sentences with (joined ", said)
-        # There are more unrolled sentences than any sentence has instances.
-        self.assertNotIn("the most instances", said)
+        # There are more unrolled sentences than any sentence has ground rules.
+        self.assertNotIn("the most ground rules", said)
 
     def test_few_instances_are_tried_first(self):
         text = "(role r) (d 1) (d 2) (d 3) (<= (legal r (m ?a ?b ?c)) (d ?a) (d ?b) (d ?c) (true s)) (init s)"

@@ -1,4 +1,4 @@
-"""Refused ground rules, the limits, and descriptions with infinitely many instances."""
+"""Refused ground rules, the limits, and descriptions with infinitely many ground rules."""
 
 import itertools
 import shutil
@@ -147,4 +147,4 @@ class Endless(unittest.TestCase):
         for rule, is_endless in (("(<= (n (g (s ?x))) (n (f ?x)))", False), ("(<= (n (f (s ?x))) (n (f ?x)))", True)):
             with mock.patch.object(gringo, "MOST_INSTANCES", 12), self.assertRaises(Refused) as why:
                 Making(text.format(rule), 60, NEVER, False).run()
-            self.assertEqual(str(why.exception).startswith("there are infinitely many instances: "), is_endless, why.exception)
+            self.assertEqual(str(why.exception).startswith("there are infinitely many ground rules: "), is_endless, why.exception)

@@ -1,4 +1,4 @@
-"""Descriptions, records and logs from other people: no command prints a long line, or a control character, from them."""
+"""Tests that no command prints a long line or a control character from a description, record or log that somebody else wrote."""
 
 import json
 import os

@@ -136,7 +136,7 @@ class Tables(unittest.TestCase):
 
     def test_why_there_is_no_rating_is_told(self):
         lines = {name: Line(name, matches=1, rating=Rating(*found)) for name, found in (("ann", (None, None, 1)), ("bob", (None, None, None)), ("cid", (7, 2, 2)))}
-        said = ["no rating: bob (the results do not limit it)", "no rating: ann (the results limit it so little that it can't be computed)"]
+        said = ["no rating: bob (the results do not determine a rating)", "no rating: ann (the results determine a rating so weakly that it can't be computed)"]
         self.assertEqual(list(notes(Table("two", lines, met={("ann", "bob"): 1}))), said)
         self.assertEqual(rating_text(Table("two", lines), lines["ann"]), "none")
 

@@ -23,7 +23,7 @@ HARMLESS = "name"
 
 
 def values_of(text: str) -> dict[str, object]:
-    """Returns values for the arguments of macros, by name. Every text from outside is this text."""
+    """Returns values for the arguments of macros, by name. `text` replaces every value that comes from outside."""
     match = Value(id=text, game=text, players=(text, text), start=1, play=2)
     status = Value(players=((text, text), (text, text)), text=text, since=1.0, clock=text, is_of_players=True, mover=text)
     found = Value(boards=markupsafe.Markup("<p>made</p>"), terms=[text, text], before={text}, gone=[text], is_empty=True, more=2)

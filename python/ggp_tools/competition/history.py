@@ -89,7 +89,7 @@ def read_key(folder: Folder, competition: Competition) -> bytes:
         raise Refused(f"{folder.key} is missing", "put it back: the ids of the matches follow from it")
     key = file_bytes(folder.key, MOST_OF_PLANNED)
     if not KEY.fullmatch(key):
-        raise Refused(f"{folder.key} is not what `ggp_competition plan` writes")
+        raise Refused(f"{folder.key} is damaged", "restore it from a backup: the ids of the matches follow from it")
     return key
 
 

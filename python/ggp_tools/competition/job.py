@@ -2,8 +2,8 @@
 
 It first writes the name of its node to standard error, and then a line every two seconds. It reads its task, a line of JSON, from standard
 input. It runs the task, passes on the task's output, and finally reports its exit status. The argument is a number of seconds. If standard
-input is closed, or silent for this time, the program ends the task. A player gets a free port and its limits, and is ended together with
-all processes that it has started."""
+input is closed, or silent for this time, the program ends the task. If the task is a player, the program gives it a free port and sets its
+limits. It ends the player together with all processes that the player has started."""
 
 import contextlib
 import ctypes

@@ -16,12 +16,13 @@ Sums = Mapping[str, str | None]
 
 
 def key_of(plan: Plan, result: str, sums: Sums, log: bytes) -> str:
-    """Returns the checksum of everything that determines the line of a match. `result` is the key of its result."""
+    """Returns the checksum of everything that determines the line of a match. `result` is the key under which the result of the match is cached."""
     return sum_of_parts(repr((result, sums, plan.competition.forfeit)).encode(), log)
 
 
 def line_of(plan: Plan, result: Result, sums: Sums, key: str) -> tuple[str, bytes]:
-    """Returns the line of a match in matches.jsonl, after the checksum of everything that determines the line. `key` is that of its result."""
+    """Returns the line of a match in matches.jsonl, after the checksum of everything that determines the line. `key` is the key
+    under which the result is cached."""
     match = result.match
     data, log = plan.read_record(match), plan.folder.whole_log(match.id)
     sums, run = {**sums, "record": record_sum(data)}, logged(last_run(io.BytesIO(log), match.id))

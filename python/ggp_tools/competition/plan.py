@@ -331,7 +331,7 @@ def faults_of_descriptions(plan: Plan, path_of: Callable[[Game], Path], advice: 
         elif sum_of(text := file.read_bytes()) != sums.get(f"{game.name}.kif"):
             yield f"{file} is not the description that the rules of {game.name} were made from"
         elif not has_variables(text) and text != plan.rules[game.name].text:
-            yield f"{file} has no variables, and differs from the rules of {game.name}"
+            yield f"{file} differs from the rules of {game.name}; a description without variables must be equal to the rules"
     for name in sorted(sums.keys() - {f"{game.name}.kif" for game in plan.competition.games}):
         yield f"{path} has a checksum of {name}, which is not a game of {plan.folder.competition}"
 

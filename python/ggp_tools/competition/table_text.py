@@ -145,9 +145,9 @@ def notes(table: Table) -> Iterator[str]:
             yield f"{line.player} made no move of its own in {line.absent} of its {line.matches} matches"
     lines = [line for line in table.standings() if line.rating and line.rating.rating is None] if table.is_of_pairs() else []
     if unrated := [line.player for line in lines if line.rating.group is None]:
-        yield f"no rating: {', '.join(unrated)} (the results do not limit it)"
+        yield f"no rating: {', '.join(unrated)} (the results do not determine a rating)"
     if unlimited := [line.player for line in lines if line.rating.group]:
-        yield f"no rating: {', '.join(unlimited)} (the results limit it so little that it can't be computed)"
+        yield f"no rating: {', '.join(unlimited)} (the results determine a rating so weakly that it can't be computed)"
 
 
 def count_of_planned(plan: Plan) -> int:

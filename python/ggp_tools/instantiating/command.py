@@ -39,7 +39,7 @@ def arguments() -> argparse.Namespace:
     text = "factor the description into fewer and shorter sentences for the same game (default: if it exceeds the limits of ggp_manager)"
     how.add_argument("--folded", dest="folding", action="store_const", const=ALWAYS, default=WHERE_NEEDED, help=text)
     how.add_argument("--unfolded", dest="folding", action="store_const", const=NEVER, help="do not factor it")
-    text = "split rules into parts with auxiliary relations (default: if there are many instances)"
+    text = "split rules into parts with auxiliary relations (default: if there are many ground rules)"
     words.add_argument("--split", action="store_true", help=text)
     words.add_argument("--player-rules", metavar="FILE", help="write the description with variables to this FILE, for players")
     words.add_argument("file", nargs="?", default="-", metavar="FILE", help="the description with variables (default: standard input, also as `-`)")

@@ -1,4 +1,4 @@
-"""Writes programs for the grounder gringo, runs it, and reads the instances."""
+"""Writes programs for the grounder gringo, runs gringo, and reads the ground rules."""
 
 import math
 import os
@@ -12,7 +12,7 @@ from collections.abc import Iterable, Iterator
 from ggp_tools.kif import MOST_LEVELS, Expression, Refused, Relation, arguments_of, levels, relation, variables
 from ggp_tools.gdl import GAME, Literal, Rule
 
-# The limits of the grounder's memory, and of the number of instances.
+# The limits of the grounder's memory, and of the number of ground rules.
 MEMORY, MOST_INSTANCES = 2 << 30, 1_000_000
 
 
@@ -102,7 +102,7 @@ def term_list(text: str) -> list[str]:
 
 
 class TooMany(Refused):
-    """There are too many instances."""
+    """There are too many ground rules."""
 
 
 class TooSlow(Refused):
@@ -110,14 +110,14 @@ class TooSlow(Refused):
 
 
 class Grounder:
-    """One run of gringo. It ends when all instances have been read, when a limit is exceeded, or when an exception is raised, for example
+    """One run of gringo. It ends when all ground rules have been read, when a limit is exceeded, or when an exception is raised, for example
     by the timer."""
 
     def __init__(self, program: LogicProgram, most: int = MOST_INSTANCES, seconds: float = math.inf) -> None:
         self.program, self.most, self.seconds, self.counts, self.lists = program, most, seconds, Counter(), {}
 
     def instances(self) -> list[tuple[int, list[str]]]:
-        """Returns the instances, each with the number of its rule and its terms."""
+        """Returns the ground rules, each as the number of the kept rule and the terms for the variables of that rule."""
         # A file in memory.
         with open(os.memfd_create("program"), "w+") as program:
             program.write(self.program.text)
@@ -155,15 +155,15 @@ class Grounder:
             if line.startswith("i") and line.endswith("\n"):
                 kept += 1
                 if kept > self.most:
-                    raise TooMany(f"there are more than {self.most:,} instances")
+                    raise TooMany(f"there are more than {self.most:,} ground rules")
                 yield int(name[1:]), term_list(arguments)
 
     def lists_in(self, rule: Rule) -> int:
-        """Returns how many lists the largest sentence contains that was derived for a rule's relation."""
+        """Returns the number of lists in the largest sentence that gringo derived for the relation of the rule."""
         return self.lists.get(self.program.name(relation(rule.head)), 0)
 
     def largest(self) -> tuple[int, ...]:
-        """Returns the sentence with the most instances so far and their number, or None."""
+        """Returns the number of the sentence that has the most ground rules so far, and the number of these rules; or None."""
         by_sentence = Counter()
         for name, count in self.counts.items():
             if name in self.program.sources:

@@ -24,13 +24,13 @@ FAR = 4
 MOST_WORK = 400_000
 # After this many seconds, intermediate results are reported immediately.
 SOON = 2
-# If a description has at most this many instances, it is tried unchanged first, because this gives the best result, and factoring it takes
+# If a description has at most this many ground rules, it is tried unchanged first, because this gives the best result, and factoring it takes
 # only seconds.
 FEW_INSTANCES = 1 << 16
 
 
 class Form(NamedTuple):
-    """One form of a description: its rules, the maximum number of instances, and notes."""
+    """One form of a description: its rules, the maximum number of ground rules, and notes."""
 
     rules: list[Rule]
     most: int
@@ -38,8 +38,8 @@ class Form(NamedTuple):
 
 
 def forms(rules: list[Rule], is_whole: bool, is_split: bool) -> list[Form]:
-    """Returns the forms in the order in which they are tried: the unchanged description if it has few instances, the one with split rules,
-    and the unchanged one with any number of instances. If only one of these is requested, returns only that one."""
+    """Returns the forms in the order in which they are tried: the unchanged description if it has few ground rules, the description with
+    split rules, and the unchanged description with any number of ground rules. If only one form is requested, returns only that form."""
     whole, parts = Form(rules, gringo.MOST_INSTANCES), split(rules)
     if is_whole or len(parts) == len(rules):
         return [whole]
@@ -159,7 +159,7 @@ class Making:
             self.notes.append(f"{counted(len(circles), 'cycle', 'of sentences is', 'of sentences are')} unrolled, {largest}")
 
     def ground(self, program: gringo.LogicProgram, most: int) -> list[Rule]:
-        self.work = "finding the instances"
+        self.work = "finding the ground rules"
         self.grounder = gringo.Grounder(program, most, self.seconds)
         try:
             instances = self.grounder.instances()
@@ -186,15 +186,15 @@ class Making:
             report(f"  after {time.monotonic() - self.began:.0f} s: {words}")
 
     def explained(self, why: str) -> str:
-        """Returns the reason, with the known facts about the instances."""
+        """Returns the reason, with the known facts about the ground rules."""
         why = "; ".join([why, *self.known])
         rule = next(filter(limits.is_endless, self.rules), None)
-        # Terms can only grow if the sentence has instances.
+        # Terms can only grow if the sentence has ground rules.
         if rule and self.grounder and self.grounder.lists_in(rule) > spelled(self.sentences[rule.sentence]).count("("):
-            why = f"there are infinitely many instances: {why}; {self.cited(rule.sentence)}, derives ever larger terms from its own"
-        # After unrolling, the reason is too many rounds, not too many instances.
+            why = f"there are infinitely many ground rules: {why}; ever larger terms come from {self.cited(rule.sentence)}"
+        # After unrolling, the reason is too many rounds, not too many ground rules.
         if self.grounder and not self.is_unrolled and (largest := self.grounder.largest()):
-            why += f"; the most instances, {largest[1]:,}, are those of {self.cited(largest[0])}"
+            why += f"; the most ground rules, {largest[1]:,}, come from {self.cited(largest[0])}"
         return why
 
     def cited(self, number: int) -> str:
