@@ -62,7 +62,8 @@ class Sizes:
         return table.answers(arguments, bound)
 
     def table(self, condition: Asked) -> tuple[Sequence[Term], Table]:
-        """Returns the table for a condition, and the arguments to look up: those of the condition, or those of its term."""
+        """Returns the arguments of a condition, and the table for them. If the relation is `true`, returns the arguments of the term in the
+        condition."""
         relation, arguments = condition.relation, condition.arguments
         if relation == DOES:
             return arguments, self.moves
