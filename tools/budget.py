@@ -35,7 +35,7 @@ class Budget:
 
 
 def steps_in(body: object) -> int:
-    """Returns the number of steps of a compiled function: the leaves of its tree, and the keys of the mappings in it."""
+    """Returns the number of steps of a compiled function: the leaves of its tree, and the keys of the mappings in the tree."""
     count, queue = 0, [body]
     while queue:
         part = queue.pop()
@@ -91,7 +91,7 @@ def totals_of(sizes: Sizes, known: dict[str, list[str]]) -> Sizes:
 
 
 def above(sizes: Sizes, budget: Budget, known: dict[str, list[str]]) -> list[str]:
-    """Returns the crates and totals that exceed their budgets or have none."""
+    """Returns the crates and totals that exceed their budgets or have no budget."""
     totals = totals_of(sizes, known)
     crates = [name for name, size in sizes.items() if size > LEEWAY * budget.crates.get(name, 0)]
     return crates + [name for name, size in totals.items() if size > LEEWAY_OF_TOTALS * budget.totals.get(name, 0)]

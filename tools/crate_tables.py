@@ -36,7 +36,7 @@ def comment_of(source: str) -> str:
 
 
 def nearest(deps: list[str], known: dict[str, list[str]]) -> list[str]:
-    """Returns the crates of a list that no other crate of the list uses."""
+    """Returns the crates of `deps` that no other crate of `deps` uses."""
     return [dep for dep in deps if not any(dep in below(other, known) for other in deps)]
 
 
@@ -50,7 +50,7 @@ def read(file: str) -> str:
 
 
 def crate_table(known: dict[str, list[str]]) -> list[Row]:
-    """Returns a row for each crate: its name, the crates that it uses directly (including those of the toolchain), and its purpose."""
+    """Returns a row for each crate: its name, the crates that it uses directly (including crates of the toolchain), and its purpose."""
     rows = []
     for name, (_, deps) in crate_rows().items():
         stands_on = [*nearest(known[name], known), *(dep for dep in deps if dep not in known)]
@@ -81,7 +81,7 @@ def with_layers(text: str, found: list[list[str]]) -> str:
 
 
 def with_table(text: str, head: str, rows: list[Row]) -> str:
-    """Replaces the rows of the table with this head in a text."""
+    """Returns the text with new rows in the table that has this head."""
     lines = ["|".join(["", *["---"] * (head.count("|") - 1), ""]), *(f"| {' | '.join(row)} |".replace("|  |", "| |") for row in rows)]
     body = "".join(f"{line}\n" for line in lines)
     return re.sub(re.escape(head) + ROWS, lambda _: f"{head}\n{body}", text)

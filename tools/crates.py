@@ -45,7 +45,7 @@ def below(name, known=None):
 
 
 def with_below(names, known):
-    """Returns the crates and all crates that they use, the lower ones first."""
+    """Returns the crates `names` and all crates that these crates use, the lower crates first."""
     order = []
     for name in names:
         order += [lower for lower in [*below(name, known), name] if lower not in order]
@@ -62,7 +62,7 @@ def texts_of(name, parts=PARTS):
 
 
 def strays(folder, names, top=TOP):
-    """Returns the non-empty subdirectories of a directory whose names are not among these. No tool would read them."""
+    """Returns the non-empty subdirectories of a directory whose names are not in `names`. No tool would read these subdirectories."""
     with os.scandir(f"{top}/{folder}") as entries:
         others = sorted(entry.name for entry in entries if entry.is_dir() and entry.name not in names)
     return [other for other in others if any(files for _, _, files in os.walk(f"{top}/{folder}/{other}"))]
@@ -86,7 +86,7 @@ def made_from(parts=PARTS):
 
 
 def said_of(program, made):
-    """Returns the contents of the file next to a program. They say what the program was made from, and give its checksum."""
+    """Returns the contents of the file next to a program: what the program was made from, and the checksum of the program."""
     return f"{made}program: {sum_of(program)}\n"
 
 
@@ -99,7 +99,8 @@ def write_beside(program, ending, made):
 
 
 def is_current(program, ending, made=None):
-    """Returns whether a program exists and was made from this text (by default the current one), according to the file next to it."""
+    """Returns whether a program exists and was made from the text `made` (by default the current text), according to the file next to
+    it."""
     try:
         with open(f"{program}.{ending}", encoding="utf-8") as file:
             return os.access(program, os.X_OK) and file.read() == said_of(program, made or made_from())

@@ -73,7 +73,7 @@ class Jobs:
             print(text, flush=True)
 
     def run(self, job: Job) -> bool:
-        """Runs a command to its end, and prints each line with the name of the job. Returns whether its exit status is 0."""
+        """Runs a command to its end, and prints each line with the name of the job. Returns whether the exit status of the command is 0."""
         began, how = time.monotonic(), {"stdin": subprocess.DEVNULL, "stdout": subprocess.PIPE, "stderr": subprocess.STDOUT}
         with self.lock:
             if self.is_ended:

@@ -47,7 +47,7 @@ def entries(lines: list[str]) -> list[tuple[str, str]]:
 
 
 def read_help(name: str, text: str) -> tuple[Help, list[str]]:
-    """Parses the help of a command. Returns it with the names of the subcommands."""
+    """Parses the help of a command. Returns the parsed help and the names of the subcommands."""
     command_help, within = Help(name, "", [], [], []), []
     for lines in paragraphs(text):
         if lines[0].lower().startswith("usage:"):
@@ -115,7 +115,7 @@ def first_words(help_of: Help) -> str:
 
 
 def bash(help_of: Help) -> str:
-    """Returns the completions of a command for bash. They complete options and subcommands, or else files."""
+    """Returns the completions of a command for bash: options and subcommands, or else files."""
     name, function = help_of.name, f"_{help_of.name.replace('-', '_')}"
     arms = [f"        {command.name.split()[-1]}) words='{' '.join(command.options())}' ;;" for command in help_of.commands]
     chosen = ["    case ${COMP_WORDS[1]} in", *arms, "    esac", "    ((COMP_CWORD == 1)) && words=$first"] if arms else []
@@ -193,5 +193,5 @@ def manual_files(commands: Mapping[str, pathlib.Path], version: str) -> dict[pat
 
 
 def manual_paths(name: str) -> tuple[pathlib.Path, ...]:
-    """Returns the paths of the manual page, the completions for bash and those for zsh of a command."""
+    """Returns the paths of three files of a command: the manual page, the completions for bash, and the completions for zsh."""
     return tuple(map(pathlib.Path, (f"share/man/man1/{name}.1", f"share/bash-completion/completions/{name}", f"share/zsh/site-functions/_{name}")))

@@ -98,7 +98,7 @@ def listed(crate: str, path: Path, top: str) -> list[Mutation]:
 
 
 def mutations_of(crate: str, top: str = TOP) -> list[Mutation]:
-    """Returns the mutations of a crate: those that the gate tries, then the others."""
+    """Returns the mutations of a crate: first the mutations that the gate tries, then all other mutations."""
     gate_mutations = [gated(crate, path, top) for path in sorted(Path(top, "crates", crate, "must-fail").glob("*.edit"))]
     path = Path(top, "tests/mutations", f"{crate}.txt")
     return gate_mutations + (listed(crate, path, top) if path.is_file() else [])

@@ -87,7 +87,7 @@ def can_install() -> bool:
 
 @contextlib.contextmanager
 def no_services(policy: str = POLICY) -> Iterator[None]:
-    """Keeps the services of packages from starting while these are installed. An existing policy stays."""
+    """While packages are installed, keeps their services from starting. An existing policy stays."""
     if os.path.exists(policy):
         yield
         return
@@ -101,7 +101,7 @@ def no_services(policy: str = POLICY) -> Iterator[None]:
 
 
 def error_of(command: Sequence[str]) -> str:
-    """Runs a command of apt-get. If it fails, returns its output, otherwise an empty text."""
+    """Runs a command of apt-get. If the command fails, returns the output of the command, otherwise an empty text."""
     how = {"stdin": subprocess.DEVNULL, "stdout": subprocess.PIPE, "stderr": subprocess.STDOUT, "text": True, "errors": "replace"}
     done = subprocess.run(command, env={**os.environ, "DEBIAN_FRONTEND": "noninteractive"}, **how)
     return f"{done.stdout}needs: {' '.join(command)}: status {done.returncode}\n" if done.returncode else ""

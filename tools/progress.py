@@ -84,6 +84,6 @@ def processors(group=GROUP):
 
 
 def at_once(needs, free=None, lanes=None):
-    """Returns how many processes can run in parallel if each needs this many bytes: at most one for each processor."""
+    """Returns how many processes can run in parallel if each process needs `needs` bytes: at most one for each processor."""
     free = free_memory() if free is None else free
     return max(1, min(lanes or processors(), free // needs))

@@ -76,7 +76,7 @@ class Proofs:
 
 
 def run_ci(top: str, names: list[str]) -> tuple[bool, str]:
-    """Runs `rt ci` in a directory with these crates. Returns whether all is proved, and its last line."""
+    """Runs `rt ci` for the crates `names` in a directory. Returns whether all crates are proved, and the last line of the output."""
     progress = Progress(by_megabytes(names, read_budget().crates), processors())
     proofs = Proofs(top, progress, Waits(crate_rows()))
     how = {"cwd": top, "stdin": subprocess.DEVNULL, "stdout": subprocess.PIPE, "stderr": subprocess.STDOUT, "text": True, "errors": "replace"}

@@ -29,7 +29,7 @@ def running_below(folder):
 
 
 def wait_for_program(folder, compiling, who):
-    """Waits until the compiled program runs, and shows the time on a terminal. Returns its path, or None."""
+    """Waits until the compiled program runs, and shows the time on a terminal. Returns the path of the program, or None."""
     began, running = time.monotonic(), None
     while compiling.poll() is None and time.monotonic() - began < PATIENCE and not running:
         if sys.stderr.isatty():

@@ -53,7 +53,7 @@ class Match:
         return self.known[literal]
 
     def move(self, joint_move):
-        """Returns a legal move. If this is not the first turn, first goes to the next state."""
+        """Returns a legal move. Before every turn except the first, goes to the next state."""
         if joint_move != "nil":
             moves = {("does", role, move) for role, move in zip(self.roles, joint_move)}
             self.state = [term for _, term in self.heads("next", self.present() | moves)]

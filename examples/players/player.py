@@ -86,7 +86,7 @@ class Game:
         return [head for head in self.heads(relation) if self.holds(head, state, joint, known)]
 
     def holds(self, literal, state, joint, known):
-        """Returns whether a literal is true in a state with these `does` sentences."""
+        """Returns whether a literal is true in a state, if the `does` sentences of `joint` hold."""
         match literal:
             case ("not", inner):
                 return not self.holds(inner, state, joint, known)

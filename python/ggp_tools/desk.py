@@ -58,7 +58,7 @@ class Refused(Exception):
 
 
 class DeskEnded(Exception):
-    """The desk has ended without a reply, or with an error. Its program has written the reason to standard error."""
+    """The desk has ended without a reply, or with an error. The program of the desk has written the reason to standard error."""
 
 
 def word(value: str | int) -> str:
@@ -190,7 +190,7 @@ class Desk:
         self.reply(f"submit {word(id_)} {word(role)} {word(round_)} {answer}")
 
     def miss(self, id_: str, role: int, round_: int, *, is_broken: bool = False) -> None:
-        """Reports that a role did not answer a round in time, or that its connection broke."""
+        """Reports that a role did not answer a round in time, or that the role's connection broke."""
         self.make("miss", id_, role, round_, "broken" if is_broken else "silent")
 
     def query(self, id_: str) -> Status:

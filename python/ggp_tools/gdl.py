@@ -110,14 +110,14 @@ def must_be_literal(literal: Expression) -> None:
 
 
 def each_of(ways: list[list[Body]]) -> list[Body]:
-    """Returns the ways to satisfy all of these conditions. Each condition is a list of the ways to satisfy it."""
+    """Returns the ways to satisfy all conditions in `ways`. A condition is given as the list of the ways to satisfy this condition."""
     if math.prod(map(len, ways)) > MOST_WAYS:
         raise Refused(f"its `or`s can hold in more than {MOST_WAYS:,} ways", advice="move some of them into a relation with its own rules")
     return [tuple(itertools.chain(*way)) for way in itertools.product(*ways)]
 
 
 def ways_of(literal: Expression, positive: bool = True) -> list[Body]:
-    """Returns the ways to satisfy a literal, or its negation if not `positive`. Each way is a list of literals."""
+    """Returns the ways to satisfy a literal, or, if `positive` is false, its negation. Each way is a list of literals."""
     match literal:
         case ("not", inner):
             return ways_of(inner, not positive)
@@ -229,7 +229,7 @@ def way_to(head: Relation, last: Relation, asks: Mapping[Relation, Iterable[Rela
 
 
 def reached(asks: Mapping[Relation, Iterable[Relation]], relations: Iterable[Relation]) -> set[Relation]:
-    """Returns all relations on which these depend, directly or indirectly."""
+    """Returns all relations on which `relations` depend, directly or indirectly. `asks` has the direct dependencies."""
     found, left = set(), list(relations)
     while left:
         for asked in asks.get(left.pop(), ()):
@@ -294,7 +294,7 @@ class Relations:
         return first | reached(asked_by, first)
 
     def bearing(self) -> set[Relation]:
-        """Returns the relations that define the game, and all relations on which these depend."""
+        """Returns the relations that define the game, and all relations on which those relations depend."""
         own = [(name, ARITIES[name]) for name in GAME]
         return {*own, ("true", 1), ("does", 2), *reached(self.asks, own)}
 

@@ -152,7 +152,7 @@ def fits(pattern: Expression, term: Expression, values: dict[str, Expression]) -
 
 
 def put(term: Expression, values: dict[str, Expression]) -> Expression:
-    """Replaces the variables of a term with their values."""
+    """Replaces the variables of a term with their values in `values`."""
     if isinstance(term, str):
         return values.get(term, term)
     return tuple([put(member, values) for member in term])

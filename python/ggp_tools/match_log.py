@@ -80,7 +80,7 @@ class Message(Event):
 
 @dataclass(frozen=True, slots=True)
 class Open(Event):
-    """A match begins. Its first START follows."""
+    """A match begins. The first START of the match follows."""
 
     match: str
     time: int | None
@@ -88,7 +88,7 @@ class Open(Event):
 
 @dataclass(frozen=True, slots=True)
 class End(Event):
-    """The first role of a match has answered STOP or ABORT, or its time has run out."""
+    """The first role of a match has answered STOP or ABORT, or the time of this message is over."""
 
     match: str
     time: int | None

@@ -13,5 +13,5 @@ def moment_at(seconds: float) -> str:
 
 
 def moment() -> str:
-    """Returns the current time in the same format."""
+    """Returns the current time in the format of `moment_at`."""
     return moment_at(time.time())

@@ -10,7 +10,7 @@ MORE = ".."
 
 
 def printable(text: str, most: int = MOST_OF_LINE) -> str:
-    """Returns at most this many characters of a text, with a question mark for each one that is not printable ASCII."""
+    """Returns at most `most` characters of a text, with a question mark for each character that is not printable ASCII."""
     return NOT_PRINTABLE.sub("?", text[:most]) + MORE * (len(text) > most)
 
 
@@ -32,7 +32,7 @@ def visible(text: str) -> str:
 
 
 def shown(text: str, most: int = MOST_OF_LINE) -> str:
-    """Returns at most this many characters of a text, with a code for each one that is not printable ASCII."""
+    """Returns at most `most` characters of a text, with a code for each character that is not printable ASCII."""
     return visible(text[:most]) + MORE * (len(text) > most)
 
 

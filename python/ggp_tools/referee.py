@@ -63,7 +63,7 @@ def find_program(given: str | None) -> str:
 
 
 def has_events(version: bytes) -> bool:
-    """Returns whether the referee writes the current log format. `version` is what it prints for `--version`."""
+    """Returns whether the referee writes the current log format. `version` is the output of the referee for `--version`."""
     return tuple(map(int, version.split()[1].split(b"."))) >= FIRST_WITH_EVENTS
 
 
@@ -88,7 +88,7 @@ def unchecked(said: subprocess.CompletedProcess, name: object) -> Unchecked:
 
 @contextlib.contextmanager
 def rules_file(rules: bytes) -> Iterator[str]:
-    """Yields the path of a temporary file with these rules. If the file cannot be written, the exception names it."""
+    """Yields the path of a temporary file with these rules. If the file cannot be written, the exception names the file."""
     with tempfile.NamedTemporaryFile() as file:
         try:
             pathlib.Path(file.name).write_bytes(rules)

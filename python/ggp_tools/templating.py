@@ -34,7 +34,7 @@ def rows_of_text(data: bytes) -> "markupsafe.Markup":
 
 
 def policy(script: str) -> str:
-    """Returns the content security policy of a page. It allows only the page's own script and styles."""
+    """Returns the content security policy of a page. The policy allows only the page's own script and styles."""
     own = f"script-src 'sha256-{base64.b64encode(hashlib.sha256(script.encode()).digest()).decode()}'; connect-src 'self'; " if script else ""
     return f"default-src 'none'; style-src 'unsafe-inline'; {own}base-uri 'none'; form-action 'none'"
 

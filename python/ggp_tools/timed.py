@@ -15,7 +15,7 @@ def late(signal_number: int, frame: object) -> None:
 
 @contextlib.contextmanager
 def limited(seconds: float) -> Iterator[None]:
-    """Raises `Late` if the block uses more processor time than this."""
+    """Raises `Late` if the block uses more than `seconds` of processor time."""
     signal.signal(signal.SIGPROF, late)
     try:
         signal.setitimer(signal.ITIMER_PROF, seconds)

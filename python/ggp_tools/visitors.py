@@ -23,7 +23,8 @@ def client_of(address: str) -> str:
 
 
 class Connection(Protocol):
-    """A connection of a client. It is idle until its whole request has arrived. `end` closes it, and calls `go` of its visitors."""
+    """A connection of a client. It is idle until a whole request has arrived. `end` closes the connection, and calls `go` of its
+    visitors."""
 
     client: str
     is_idle: bool
@@ -32,7 +33,8 @@ class Connection(Protocol):
 
 
 def oldest_of_most(connections: Collection[Connection], size_of: Callable[[Connection], int] = lambda connection: 1) -> Connection | None:
-    """Returns the oldest connection of the client that has the most, by number or by another measure; None if there are no connections."""
+    """Returns the oldest connection of the client with the most connections, or the most by `size_of`. If there are no connections, returns
+    None."""
     counts: Counter[str] = Counter()
     for connection in connections:
         counts[connection.client] += size_of(connection)

@@ -220,7 +220,7 @@ def output(rules, script):
 
 
 def check():
-    """Exits with status 1 if an expected output differs, or if the directory has none."""
+    """Exits with status 1 if an expected output differs, or if the directory has no expected output."""
     files = sorted(GAMES.glob("*.kif"))
     for rules in files:
         if rules.with_suffix(".out").read_text() != output(rules.read_text(), rules.with_suffix(".script").read_text()):

@@ -151,7 +151,7 @@ class Facts:
 
 
 class GoesRound(Exception):
-    """A query of this relation came up again while it was being answered."""
+    """A query of this relation came up again while the interpreter was answering it."""
 
 
 class Look:
@@ -299,7 +299,8 @@ class Game:
         return found
 
     def found_circles(self, groups):
-        """Returns for each recursive relation the set of relations in its cycle. A relation that negates itself is not included."""
+        """Returns, for each recursive relation, the set of relations in the relation's cycle. A relation that negates itself is not
+        included."""
         found = {}
         for group in groups:
             circle = frozenset(name for name in group if len(group) > 1 or name in self.asks[name])

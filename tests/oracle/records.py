@@ -150,7 +150,7 @@ def misshapen(record):
 
 
 def fault_of_turn(state, strikes, turns, turn, moves, errors):
-    """Returns the error in the turn's moves and errors, or None."""
+    """Returns the error in the moves and errors of a turn, or None."""
     retired = [is_retired(strikes, turns, role) for role in range(2)]
     if state.terminal() or all(retired):
         return "end"
@@ -263,7 +263,7 @@ def random_record(chance):
 
 
 def part(chance, legal, retired):
-    """Returns the move of a role in a turn, and its error."""
+    """Returns the move of a role in a turn, and the error of this move."""
     if retired:
         return legal[0], "RT"
     if chance.random() < 0.5:

@@ -37,7 +37,7 @@ def begun(sentences: Sentences) -> ground_games.Match:
 
 
 def ended(match: ground_games.Match) -> Record:
-    """Sends all roles their last message, and returns the record of the match."""
+    """Sends the last message to all roles, and returns the record of the match."""
     match.marks["end"] = dict(match.marks["start"])
     return match.record()
 

@@ -72,7 +72,7 @@ def opened(match: object, time: int | None = None) -> str:
 
 
 def begin(plan: Plan, match: object, log: str = "") -> pathlib.Path:
-    """Begins a match. Returns the file of its log."""
+    """Begins a match. Returns the log file of the match."""
     room = plan.folder.open / match.id
     room.mkdir(parents=True, exist_ok=True)
     for name in ("asking", "players", "playing"):
@@ -97,7 +97,7 @@ def record_of(match: object, moves: list, errors: list, goals: list[int]) -> dic
 
 
 def end(plan: Plan, match: object, record: dict, log: str = "") -> None:
-    """Ends a match with this record and this log."""
+    """Ends the match `match`, and writes `record` and `log` as its record and its log."""
     ended = line_of(End(match.id, ENDED, "STOP")).decode("ascii")
     plan.folder.log(match.id).write_text((log or opened(match, BEGAN)) + ended)
     plan.folder.record(match.id).write_text(json.dumps(record) + "\n")

@@ -28,7 +28,7 @@ def played() -> tuple[str, str, str]:
 
 
 def make_up(folder: pathlib.Path, count: int) -> None:
-    """Plans this many matches in a directory, and writes the files of all of them."""
+    """Plans `count` matches in a directory, and writes the files of all these matches."""
     lines = ", ".join(['"tictactoe p0 p1"'] * count)
     text = toml([("p0", "h:1"), ("p1", "h:2")], [("tictactoe", RULES)], f'kind = "schedule"\nlines = [{lines}]')
     (folder / "competition.toml").write_text(text)

@@ -81,7 +81,7 @@ def placed(rows, key):
 
 
 def crosstable(records, forfeit, games=None):
-    """Returns for each pair of players the points of the first against the second, and the number of their matches."""
+    """Returns, for each pair of players, the points of the first against the second, and the number of matches of the pair."""
     found = {}
     for record in records:
         goals, gone = counting_goals(record, forfeit)

@@ -95,7 +95,7 @@ class Describing:
         return "".join(f"{spelled(sentence)}\n" for sentence in self.sentences)
 
     def add_facts(self) -> list[Source]:
-        """Adds facts, and relations that depend only on them."""
+        """Adds facts, and relations that depend only on facts."""
         for name, kinds in FACTS.items():
             for _ in range(self.dice.randint(2, 6)):
                 fact = (name, *(Body(self.dice).constant(kind, self.roles) for kind in kinds))

@@ -39,7 +39,7 @@ ODD = """
 
 
 def verdict_rows(*faults):
-    """Returns the output of `verify --json` for records with these faults. None stands for a lawful record."""
+    """Returns the output of `verify --json` for records with the given faults. The fault None stands for a lawful record."""
     verdicts = ({"verdict": "not_lawful", "fault": fault} if fault else {"verdict": "lawful"} for fault in faults)
     return "".join(json.dumps(verdict, separators=(",", ":")) + "\n" for verdict in verdicts).encode()
 
@@ -69,7 +69,7 @@ def stand_in(**answers):
 
 
 def wait_until(holds):
-    """Waits until a condition holds. If it never does, the time limit of the whole test run ends the wait."""
+    """Waits until a condition holds. If the condition never holds, the time limit of the whole test run ends the wait."""
     while not holds():
         time.sleep(0.02)
 

@@ -55,7 +55,7 @@ class Aborts(unittest.TestCase):
 
 
 class Words:
-    """A fake referee. Its command for an address runs the address as a script."""
+    """A fake referee. The command of this referee for an address runs the address as a script."""
 
     def __init__(self):
         self.begun = []

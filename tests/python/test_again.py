@@ -22,7 +22,7 @@ RECORD = (
 
 
 class Lawful:
-    """A fake referee that accepts each record, and reproduces it from its call log."""
+    """A fake referee that accepts each record, and reproduces the record from the call log."""
 
     path = "none"
 

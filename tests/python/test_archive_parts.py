@@ -74,7 +74,7 @@ class Made(unittest.TestCase):
         self.path = self.room / "cup.tar.gz"
 
     def end(self, match, goals):
-        """Writes the files of a match. The calls in the call log are those that follow from the match's log."""
+        """Writes the files of a match. The calls in the call log follow from the log of the match."""
         folder = self.plan.folder
         folder.record(match.id).write_text(json.dumps(record_of(match, [["(take 2)", "noop"], ["noop", "(take 1)"]], [["", ""], ["", ""]], goals)) + "\n")
         calls = "".join(f"{at + 1}\tnext {match.id} {at}\towe 0 start\n{at + 1}\tsubmit {match.id} {at} 0 ready\ttaken\n" for at in (0, 1))

@@ -32,7 +32,7 @@ class Played:
         return ["lawful"] * len(records)
 
     async def all_checked(self):
-        """Checks all matches: the referee gets the first one before the others have ended."""
+        """Checks all matches. The referee gets the first match before the other matches have ended."""
         calls = [asyncio.create_task(self.check(match)) for match in self.plan.matches]
         # Each match waits for its check after one step.
         await asyncio.sleep(0)

@@ -231,7 +231,7 @@ class Verdicts(WithStandIn):
             self.assertEqual(said, (f"{path} {wrong} {status}", 3), answer)
 
     def lines_of(self, data: bytes) -> tuple[str, list[str]]:
-        """Returns how many records are lawful, and the explanations of the others."""
+        """Returns how many records are lawful, and the explanations of all other records."""
         file, out, said = self.folder / "records", io.StringIO(), io.StringIO()
         file.write_bytes(data)
         with contextlib.redirect_stdout(out), contextlib.redirect_stderr(said):

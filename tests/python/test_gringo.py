@@ -107,7 +107,7 @@ class Read(unittest.TestCase):
 
 class Runs(InFolder):
     def instances(self, text):
-        """Returns the instances of a grounder that is this shell script."""
+        """Returns the ground rules that a fake grounder, this shell script, finds."""
         script(self.folder / "gringo", f"#!/bin/sh\n{text}\n")
         with mock.patch.dict(os.environ, {"PATH": f"{self.folder}:{os.environ['PATH']}"}):
             return Grounder(program_of("(role r) (d a)")).instances()

@@ -37,7 +37,7 @@ def seated(matches):
 
 class Growth(unittest.TestCase):
     def grown(self, *versions, again=()):
-        """Plans the first file, and then replaces it with each of the others in turn. Returns the schedule."""
+        """Plans the first file, and then replaces the file with each other file in turn. Returns the schedule."""
         history = History((), tuple(again))
         for before, after in zip(versions, versions[1:]):
             refuse_changes(before, after)

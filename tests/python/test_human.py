@@ -632,7 +632,7 @@ class Pages(unittest.TestCase):
         taken, read, body = [], threading.Semaphore(0), server.Handler.body
 
         def read_late(handler, most):
-            """The first message is read after the others."""
+            """The server reads the first message after all other messages."""
             data = body(handler, most)
             if data == b"0":
                 for _ in range(3):

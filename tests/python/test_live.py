@@ -65,7 +65,7 @@ class InRoom(unittest.TestCase):
         reader.advance(NEVER)
 
     def play(self, number, moves, answers, roles=(0, 1)):
-        """Returns the lines of a turn. Its PLAY messages have the moves of the previous turn."""
+        """Returns the lines of a turn. The PLAY messages of the turn have the moves of the previous turn."""
         return "".join(line(self.match, role, number, f"(PLAY {self.match.id} {moves})", answers[role]) for role in roles)
 
 

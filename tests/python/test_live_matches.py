@@ -53,7 +53,7 @@ class Saying(threading.Thread):
 
 
 class Counting(Referee):
-    """The referee, and how often its desk was asked."""
+    """The referee, and how often somebody asked the desk of this referee."""
 
     asked = 0
 
@@ -118,7 +118,7 @@ class Matches(InFolder):
         self.assertEqual(referee.asked, 2 + len(record["moves"]))
 
     def assert_shown(self, seen: LiveMatch, before: list[Message], after: list[Message], record: dict) -> None:
-        """Checks the page after this many answers. What it must show is computed with the help of the later messages."""
+        """Checks the page after some answers. The expected page is computed with the help of the later messages."""
         position, left = seen.board.position, set(map(round_of, after))
         turns = [turn for turn in range(1, len(record["moves"]) + 1) if turn not in left and 0 not in left]
         self.assertEqual(seen.board.trouble, "")

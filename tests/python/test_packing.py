@@ -31,7 +31,7 @@ def tar_of(files):
 
 
 def unpacked(tar):
-    """Unpacks the archive of a tar file. Returns the files, or why they are refused."""
+    """Unpacks the archive of a tar file. Returns the files, or the reason why the archive is refused."""
     with tempfile.TemporaryDirectory() as name:
         room = pathlib.Path(name)
         path = room / "a.tar.gz"

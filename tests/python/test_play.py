@@ -28,7 +28,7 @@ def lines(out, word):
 
 
 def read_to_close(terminal):
-    """Returns all output of a terminal until its other end is closed."""
+    """Returns all output of a terminal until the other end of the terminal is closed."""
     said = b""
     with contextlib.suppress(OSError):
         while piece := os.read(terminal, 4096):

@@ -100,7 +100,7 @@ class Schedules(unittest.TestCase):
 
 class Rounds(unittest.TestCase):
     def played(self, chance, found, strikes, forfeit):
-        """Plays a competition in rounds. Returns its schedule, the records of each round, and all results."""
+        """Plays a competition in rounds. Returns the schedule, the records of each round, and all results."""
         records, results, by_round = {}, {}, []
         while True:
             growing = grown(History(), found, ROLES, lambda match: results.get(match.id))

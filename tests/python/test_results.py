@@ -95,7 +95,7 @@ class Lines(unittest.TestCase):
 
 class Lapses(unittest.TestCase):
     def lapse(self, most, *turns):
-        """Returns why red has lost a match. Each turn has its error, and the role that has a choice."""
+        """Returns why red has lost a match. Each turn has an error, and the role that has a choice."""
         errors = [["", error] for error, _ in turns]
         states = [["(heap 3)", f"(turn {role})"] for _, role in (*turns, ("", "red"))]
         data = json.dumps({"states": states, "strikes": 0}, separators=(",", ":")).encode()

@@ -211,7 +211,7 @@ points / matches
 
 class Joined(unittest.TestCase):
     def plan(self, name, players, games, head="", form='kind = "round_robin"', digest="1"):
-        """Returns the plan of a competition without matches. Its rules have this checksum."""
+        """Returns the plan of a competition without matches. `digest` is the checksum of the rules."""
         text = toml([(player, f"h:{at}", *more) for at, (player, *more) in enumerate(players, 1)], [(game, "f") for game in games], form, head)
         found = read_competition(text.replace('"cup"', f'"{name}"').encode())
         return Plan(Folder(name), found, {game: Rules(b"(role a)", digest, ("a",)) for game in games}, [Match(f"{name}-001", games[0], 1, 1, ("ann",))])

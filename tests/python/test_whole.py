@@ -23,7 +23,7 @@ forfeit = true
 
 
 def recount(records):
-    """Returns for each player its matches, goals, matches with goals, wins, draws, losses, moves, replaced moves and retirements."""
+    """Returns, for each player, the matches, goals, matches with goals, wins, draws, losses, moves, replaced moves and retirements."""
     found = {}
     for record in records:
         out = [any(turn[role] for turn in record["errors"]) for role in range(len(record["players"]))]

@@ -60,7 +60,7 @@ def are_same(one: str, other: str) -> bool:
 
 
 def refusal(place: Place) -> str:
-    """Returns the reason why the system refuses connections to an address, or an empty text. This sends nothing."""
+    """Returns the reason why the system refuses connections to the address `place`, or an empty text. The check sends nothing."""
     address = ipaddress.ip_address(place[0])
     if address.is_multicast:
         return "a multicast address accepts no connection"

@@ -64,12 +64,12 @@ Content = tuple[str, Data]
 
 
 def files_below(folder: pathlib.Path) -> dict[str, pathlib.Path]:
-    """Returns the files below a directory by their relative paths, in order."""
+    """Returns the files below a directory, in order, each under its path relative to the directory."""
     return {str(file.relative_to(folder)): file for file in sorted(folder.rglob("*")) if file.is_file()}
 
 
 def contents(plan: Plan, referee: Referee, results: list[Result], pages: Iterable[str], known: Known | None = None) -> Iterator[Content]:
-    """Yields the name and the contents of each file to publish, including these pages."""
+    """Yields the name and the contents of each file to publish, including the files of `pages`."""
     folder = plan.folder
     yield "competition.toml", plan.text
     yield "schedule.tsv", folder.schedule
@@ -113,7 +113,7 @@ def bytes_of(data: Data) -> bytes:
 
 
 def with_sums(contents: Iterable[Content]) -> Iterator[tuple[str, bytes]]:
-    """Yields the name and the bytes of each file that is published, and finally those of the file with the checksums."""
+    """Yields the name and the bytes of each published file, and finally the name and the bytes of the file with the checksums."""
     sums = {}
     for name, data in contents:
         data = bytes_of(data)
@@ -142,7 +142,7 @@ def faults_of_sums(folder: pathlib.Path) -> Iterator[str]:
 
 
 def has_bytes(file: pathlib.Path, data: bytes) -> bool:
-    """Returns whether a file has these bytes. A file of another size is not read, because it may be huge."""
+    """Returns whether the file has exactly the bytes `data`. If the file has another size, it is not read, because it may be huge."""
     return file.stat().st_size == len(data) and file.read_bytes() == data
 
 

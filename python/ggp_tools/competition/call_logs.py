@@ -79,7 +79,7 @@ class Asked:
         return self.holds[role][1] <= MOST_HOLDS + self.clocks[hold != b"hold 0"] + 2 * self.roles
 
     def is_next(self, text: bytes) -> bool:
-        """Returns whether a line of the call log is the next call that a referee makes for its role."""
+        """Returns whether `text`, a row of the call log, is the next call that a referee makes for the role in this row."""
         if call := NEXT.fullmatch(text):
             role = call[3]
             if not self.is_of_role(call[1], call[2], role) or role in self.rounds:
@@ -100,7 +100,8 @@ def shown(text: bytes) -> str:
 
 
 def fault_of_account(account: bytes) -> str | None:
-    """Returns an error about the first row of a call log that is not a call by the match's referee, or None."""
+    """If a row of a call log is not a call by the referee of the match, returns an error about the first such row. Otherwise returns
+    None."""
     lines = lines_of(account)
     first = next(lines, b"")
     opening = OPENING.fullmatch(first)
@@ -134,7 +135,7 @@ def unescaped(text: bytes | None) -> str:
 
 
 def message_text(match: "Match", role: str, kind: str, joint: str) -> str:
-    """Returns the message that was sent to a role. `joint` is the joint move in it."""
+    """Returns the message of this kind that was sent to the role. `joint` is the joint move in the message."""
     if kind == "START":
         return f"(START {match.id} {role} ... {match.start} {match.play})"
     return f"({kind} {match.id}{' ' * bool(joint)}{joint})"

@@ -20,7 +20,7 @@ from ggp_tools.referee import Referee, Unchecked
 
 
 class Checked(NamedTuple):
-    """The result of a match, or the reason why it does not count, and whether the rules of its game are wrong."""
+    """The result of a match, or the reason why the match does not count, and whether the rules of the game are wrong."""
 
     result: Result | None = None
     why: str | None = None
@@ -66,7 +66,7 @@ class Checking:
 
 
 def faults_of(plan: Plan, referee: Referee, game: str, files: Sequence[tuple[bytes, bytes]]) -> list[str | Unchecked | None]:
-    """Returns, for each match of a game, the error in its files, or the reason why the referee gives no verdict, or None."""
+    """Returns, for each match of a game, the error in the files of the match, or the reason why the referee gives no verdict, or None."""
     faults: list[str | Unchecked | None] = [fault_of_files(*each, plan.rules[game].text) for each in files]
     sound = [at for at, fault in enumerate(faults) if not fault]
     try:

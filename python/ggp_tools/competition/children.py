@@ -82,7 +82,8 @@ class Done:
 
 
 def spawned(words: list[str], *outputs: int) -> int:
-    """Starts a program without input in a group of its own, with these outputs. Returns the number of its process."""
+    """Starts a program without input, in a separate group. `outputs` are its standard output and its standard error. Returns the number of
+    the process."""
     streams = [(os.POSIX_SPAWN_OPEN, 0, os.devnull, os.O_RDONLY, 0), *((os.POSIX_SPAWN_DUP2, file, at) for at, file in enumerate(outputs, 1))]
     return os.posix_spawnp(words[0], words, APART.get() or os.environ, file_actions=streams, setsid=True, setsigdef=NOT_IGNORED)
 
@@ -109,7 +110,7 @@ async def status_of(process: int, seconds: float | None) -> int | None:
 
 
 async def run(words: list[str], seconds: float | None = None) -> Done:
-    """Runs a program to its end. It is killed when its time is over, or if the caller is cancelled."""
+    """Runs a program to its end. Kills the program after `seconds`, or if the caller is cancelled."""
     began = time.monotonic()
     with contextlib.ExitStack() as stack:
         # A file in memory costs less than a pipe, and has all output as soon as the program has ended.
@@ -121,7 +122,7 @@ async def run(words: list[str], seconds: float | None = None) -> Done:
 
 
 async def in_thread(threads: concurrent.futures.Executor | None, call: Callable[[], object]) -> None:
-    """Makes a call in one of these threads, or in those of the event loop, and waits for its end even if this is cancelled."""
+    """Makes the call in one of `threads`, or in a thread of the event loop. Waits until the call ends, even if the caller is cancelled."""
     calling = asyncio.get_running_loop().run_in_executor(threads, call)
     try:
         await asyncio.shield(calling)

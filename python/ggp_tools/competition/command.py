@@ -131,7 +131,7 @@ def counts_of_game(plan: Plan, matches: list[Match]) -> str:
 
 
 def preview(path: str, referee: Referee) -> int:
-    """Prints the matches that `plan` would add, or those of the next round, and writes nothing."""
+    """Prints the matches that `plan` would add, or the matches of the next round, and writes no file."""
     plan = make_plan(path, referee, is_preview=True)
     missing = 0
     if plan.rounds and plan.known is not None:

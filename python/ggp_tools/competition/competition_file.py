@@ -124,11 +124,12 @@ class Section:
         self.mistake(key, f"expected {what}, found {spelled(found)}", line)
 
     def read(self, kind: type, **given: object) -> Any:
-        """Returns an object of this class. `given` has some of its fields; the others are read from their keys."""
+        """Returns an object of the class `kind`. `given` has the values of some fields. The other fields are read from the keys of this
+        table."""
         return kind(**{of.name: of.metadata["read"](self, of.name) for of in fields(kind) if of.name not in given and "read" in of.metadata}, **given)
 
     def part(self, key: str, kind: type, default: object = None) -> Any:
-        """Returns a table within this table as an object of this class. If it is missing, returns the default."""
+        """Returns the table `key` within this table, as an object of the class `kind`. If the table is missing, returns the default."""
         if key not in self.table:
             return default
         section = self.section(key)
@@ -272,7 +273,7 @@ def line_of(key: str = "") -> Any:
 
 
 def keys_of(kind: type) -> list[str]:
-    """Returns the keys from which an object of this class is read."""
+    """Returns the keys from which an object of the class `kind` is read."""
     return [of.metadata.get("key") or of.name for of in fields(kind) if not of.metadata.get("is_line")]
 
 
@@ -405,7 +406,7 @@ class Competition:
 
 
 def refuse_twice(sections: list[Section], key: str) -> None:
-    """If two sections have the same value of a key, refuses the later one."""
+    """If two sections have the same value of `key`, refuses the later section."""
     known = {}
     for section in sections:
         if type(value := section.table.get(key)) is str and known.setdefault(value, section) is not section:

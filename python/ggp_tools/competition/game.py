@@ -36,7 +36,7 @@ NO_VERDICT = re.compile(
 
 
 def add_game(commands: Any) -> argparse.ArgumentParser:
-    """Adds the command `game` to those of the command line, and returns it."""
+    """Adds the command `game` to the commands of the command line, and returns the new command."""
     command = commands.add_parser("game", help=HELP, description=f"{HELP[0].upper()}{HELP[1:]}.", epilog=STATUS)
     command.add_argument("file", metavar="FILE", help="the description, with or without variables")
     command.add_argument("--large", action="store_true", help="use the limits for large games at once")
@@ -97,7 +97,7 @@ def load(path: pathlib.Path, text: bytes, referee: Referee, limit: int) -> Rules
 
 
 def report_game(reporter: Reporter, asked: argparse.Namespace, referee: Referee, path: pathlib.Path, text: bytes) -> bool:
-    """Reports on a description. Returns whether the description is refused, or whether its matches show an error."""
+    """Reports on a description. Returns whether the description is refused, or whether the random matches show an error."""
     from ggp_tools.descriptions.refused import why_refused
 
     reporter.draw("the description")
@@ -141,7 +141,7 @@ def report_suspicions(reporter: Reporter, asked: argparse.Namespace, text: bytes
 
 
 def report_matches(reporter: Reporter, asked: argparse.Namespace, referee: Referee, text: bytes, rules: Rules) -> bool:
-    """Plays random matches, and reports how they ended. Returns whether one of them showed an error, or whether none ended."""
+    """Plays random matches, and reports how they ended. Returns whether a match showed an error, or whether no match ended."""
     from ggp_tools.descriptions.goals import goals_said
     from ggp_tools.descriptions.random_matches import RandomMatches
 

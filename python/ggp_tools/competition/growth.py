@@ -23,7 +23,7 @@ ResultOf = Callable[[Match], Result | None]
 
 
 class Misfit(Exception):
-    """The reason why a schedule can't grow in this way. If the error is in competition.toml, `line` is its line."""
+    """The reason why a schedule can't grow in this way. If the error is in competition.toml, `line` is the line of the error."""
 
     def __init__(self, words: str, line: int = 0) -> None:
         super().__init__(words)

@@ -16,7 +16,7 @@ END_SECONDS, PAUSE = 15, 0.01
 
 
 def marked(value: str) -> list[int]:
-    """Returns the processes whose mark has this value."""
+    """Returns the processes whose mark is `value`."""
     mark, found = os.fsencode(f"{MARK}={value}"), []
     for file in pathlib.Path("/proc").glob("[0-9]*/environ"):
         # The environments of the processes of other users can't be read.
@@ -27,7 +27,7 @@ def marked(value: str) -> list[int]:
 
 
 def end_marked(value: str) -> None:
-    """Kills the processes whose mark has this value, and those that they start meanwhile."""
+    """Kills the processes whose mark is `value`, and all processes that these processes start meanwhile."""
     until = time.monotonic() + END_SECONDS
     while (found := marked(value)) and time.monotonic() < until:
         for process in found:

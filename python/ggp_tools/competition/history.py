@@ -48,7 +48,7 @@ def competition_of_file(path: Path, text: bytes, seeds: Path | None = None) -> C
 
 
 def seeded(competition: Competition, path: Path) -> Competition:
-    """Returns a competition with its players in the order of another competition's table. Players that the table lacks come last."""
+    """Returns a competition with its players in the order of another competition's table. Players that are not in the table come last."""
     try:
         if len(text := file_bytes(path, MOST_OF_PLANNED + 1)) > MOST_OF_PLANNED:
             raise ValueError

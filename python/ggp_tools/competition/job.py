@@ -63,7 +63,7 @@ def limit(memory: int, processors: int, number: int) -> None:
 
 
 def children() -> list[int]:
-    """Returns the processes whose parent is this one."""
+    """Returns the processes whose parent is this process."""
     numbers = []
     for file in pathlib.Path("/proc").glob("[0-9]*/stat"):
         with contextlib.suppress(OSError):

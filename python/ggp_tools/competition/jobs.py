@@ -125,7 +125,8 @@ class Job:
             await self.take([rest])
 
     async def take(self, lines: list[bytes]) -> None:
-        """Handles lines of standard error: first the job's own lines, and then all others together, because there may be very many."""
+        """Handles lines of standard error: first the lines of the job itself, then all other lines together, because there may be very
+        many."""
         for line in lines:
             if line.startswith(OURS):
                 self.take_own(line)
@@ -146,7 +147,7 @@ class Job:
             self.has_player.set()
 
     async def beat(self) -> None:
-        """Sends the job a byte every few seconds, once it runs."""
+        """Sends the job a byte every few seconds, once the job runs."""
         await self.runs.wait()
         while not self.process.stdin.is_closing():
             self.process.stdin.write(b"\n")

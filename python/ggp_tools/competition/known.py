@@ -91,7 +91,7 @@ class Known:
             return self.read[kind]
 
     def get(self, kind: str, key: str) -> typing.Any:
-        """Returns a value, or None if it is not known."""
+        """Returns the stored value of a key, or None if no value is stored."""
         value = self.facts(kind).get(key)
         if value is not None:
             self.put(kind, key, value)

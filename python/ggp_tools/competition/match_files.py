@@ -71,13 +71,14 @@ def most_of_record(rules: bytes, size: int) -> int:
 
 
 def record_bytes(folder: Folder, match: str, rules: bytes) -> bytes:
-    """Returns the record of a match. If the file is too long for its game, returns just enough bytes to show this."""
+    """Returns the record of a match. If the file is longer than a record of the game may be, returns just enough bytes to show this."""
     file = folder.record(match)
     return file_bytes(file, most_of_record(rules, size_of(file)) + 2)
 
 
 def account_bytes(folder: Folder, match: str) -> bytes | None:
-    """Returns the call log of a match, or None if it is missing. If it is too long, returns one byte more than the limit."""
+    """Returns the call log of a match, or None if the file is missing. If the call log is too long, returns one byte more than the
+    limit."""
     try:
         return file_bytes(folder.account(match), LONGEST_ACCOUNT + 1)
     except FileNotFoundError:
@@ -115,7 +116,7 @@ def has_shape(record: object, roles: int) -> bool:
 
 
 def unverified_result(folder: Folder, competition: Competition, rules: Mapping[str, "Rules"], match: Match) -> Result | None:
-    """Returns the result of a match from its record, which has not been checked yet. If there is no record, returns None."""
+    """Returns the result of a match from the record, which has not been checked yet. If there is no record, returns None."""
     try:
         data = record_bytes(folder, match.id, rules[match.game].text)
         record = json.loads(without_states(data))
@@ -127,7 +128,7 @@ def unverified_result(folder: Folder, competition: Competition, rules: Mapping[s
 
 
 def referee_faults(plan: "Plan", referee: Referee, game: str, records: Sequence[bytes], accounts: Sequence[bytes]) -> list[str | None]:
-    """Returns, for each record and its call log, the error that the referee finds in them, or None."""
+    """Returns, for each record with its call log, the error that the referee finds in the record or the call log, or None."""
     rules, referee = plan.folder.rules_of(game), plan.judge(referee, game)
     verdicts = referee.verdicts(rules, records)
     lawful = [at for at, verdict in enumerate(verdicts) if verdict == "lawful"]
@@ -207,7 +208,7 @@ def in_threads(call: Callable[..., list[Check]], parts: Sequence[tuple]) -> Iter
 
 
 def check_records(plan: "Plan", referee: Referee, known: Known | None = None) -> tuple[dict[str, Result], dict[str, str], dict[str, str]]:
-    """Returns, by match id, the results of the matches that count, and the faults and misfits of the others with records."""
+    """Returns, by match id, the results of the matches that count, and the faults and misfits of all other matches that have a record."""
     by_game: dict[str, list[Match]] = {}
     names = {file.name for file in os.scandir(plan.folder.records)} if plan.folder.records.is_dir() else ()
     for match in plan.matches:

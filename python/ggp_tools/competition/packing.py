@@ -44,7 +44,7 @@ class Spoilt(Refused):
 
 
 class TooLarge(Exception):
-    """The archive, or a file in it, would be larger than `check` accepts."""
+    """The archive, or a file in the archive, would be larger than `check` accepts."""
 
 
 def header(name: str, size: int) -> tarfile.TarInfo:
@@ -54,7 +54,7 @@ def header(name: str, size: int) -> tarfile.TarInfo:
 
 
 def pack(file: BinaryIO, contents: Iterable[tuple[str, bytes]]) -> None:
-    """Writes an archive of these files. The same files always give the same archive."""
+    """Writes an archive of the files in `contents`. The same contents always give the same archive."""
     size = 0
     with gzip.GzipFile(filename="", mode="wb", fileobj=file, mtime=0, compresslevel=LEVEL) as packed, tarfile.open(fileobj=packed, mode="w|") as archive:
         for name, data in contents:
@@ -98,7 +98,7 @@ def members(stream: BinaryIO) -> Iterator[tuple[str, int]]:
 
 
 def copy(stream: BinaryIO, size: int, path: pathlib.Path) -> None:
-    """Writes the bytes of a member to a new file, and creates its directories."""
+    """Writes the `size` bytes of a member to a new file at `path`, and creates the directories of the file."""
     try:
         path.parent.mkdir(parents=True, exist_ok=True)
         with open(path, "xb") as file:
@@ -111,7 +111,7 @@ def copy(stream: BinaryIO, size: int, path: pathlib.Path) -> None:
 
 
 def planned_ids(schedule: pathlib.Path) -> set[str | None]:
-    """Returns the ids of the matches of a schedule, and None for its head."""
+    """Returns the ids of the matches of a schedule, and None for the head of the schedule."""
     with open(schedule, "rb") as rows:
         if sum(1 for _ in rows) > MOST_MATCHES + 1:
             raise Spoilt(f"{schedule.name} has more than {MOST_MATCHES:,} matches")
@@ -132,7 +132,7 @@ def is_of_match(name: str, size: int, ids: set[str | None], folder: pathlib.Path
 
 
 def unpack(path: pathlib.Path, empty: pathlib.Path) -> pathlib.Path:
-    """Unpacks an archive into an empty directory, and returns the directory of the competition in it."""
+    """Unpacks an archive into the empty directory `empty`, and returns the path of the competition's directory below `empty`."""
     folder, count, size, others, ids = empty, 0, 0, 0, set()
     try:
         with gzip.open(path) as stream:

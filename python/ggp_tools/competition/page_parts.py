@@ -44,7 +44,7 @@ PageParts = list[Part | Items]
 
 
 def html_of(template: str, macro: str, **values: object) -> "Markup":
-    """Returns the HTML that a macro of a template makes from these values."""
+    """Returns the HTML that a macro of a template makes from `values`."""
     return getattr(macros(template), macro)(**values).strip()
 
 

@@ -59,19 +59,19 @@ class Plan:
         return referee.taking(self.rules[game].is_large)
 
     def read_record(self, match: Match) -> bytes:
-        """Returns the record of a match. If the file is too long for its game, returns just enough bytes to show this."""
+        """Returns the record of a match. If the file is longer than a record of the game may be, returns just enough bytes to show this."""
         return record_bytes(self.folder, match.id, self.rules[match.game].text)
 
 
 class Unplanned(Refused):
-    """There is no plan, or it does not agree with competition.toml."""
+    """There is no plan, or the plan does not agree with competition.toml."""
 
 
 # ---- files of a plan
 
 
 def read_file(path: Path, most: int = MOST_OF_PLANNED + 1) -> bytes:
-    """Returns the bytes of a file, or only the first `most` of them."""
+    """Returns the bytes of a file, or only the first `most` bytes."""
     try:
         return file_bytes(path, most)
     except OSError as why:
@@ -110,7 +110,7 @@ def not_planned(path: Path) -> Refused:
 
 
 def sums_text(sums: Mapping[str, str]) -> bytes:
-    """Returns the text of a file with these checksums, by file name, in the format of `sha256sum`."""
+    """Returns the text of a file with the checksums `sums`, which are given by file name, in the format of `sha256sum`."""
     return "".join(f"{digest}  {name}\n" for name, digest in sorted(sums.items())).encode("utf-8")
 
 
@@ -139,7 +139,7 @@ def is_begun(folder: Folder) -> bool:
 
 
 def count_of_matches(folder: Folder) -> int | None:
-    """Returns the number of matches in schedule.tsv, or None if it does not exist."""
+    """Returns the number of matches in schedule.tsv, or None if schedule.tsv does not exist."""
     return sum(row.endswith(b"\n") for row in rows_of(folder.schedule)) - 1 if folder.schedule.exists() else None
 
 
@@ -354,7 +354,8 @@ def read_rules(folder: Folder, competition: Competition, referee: Referee) -> di
 
 
 def read_plan(path: str, referee: Referee) -> Plan:
-    """Returns the competition that was planned in a directory. Refuses a competition whose rules or schedule are not those of the plan."""
+    """Returns the competition that was planned in a directory. If the rules or the schedule differ from the plan, refuses the
+    competition."""
     folder = Folder(path)
     folder.refuse_old_logs()
     text = read_toml_file(folder.competition)
@@ -424,7 +425,8 @@ def next_plan(plan: Plan, results: Mapping[str, Result]) -> Plan | None:
 
 
 def plan_next_round(plan: Plan, results: Mapping[str, Result]) -> list[Match]:
-    """If there is a next round and the last one is over, plans it, writes the schedule, and returns the new matches."""
+    """If the last planned round is over and there is a next round, plans the next round, writes the schedule, and returns the new
+    matches."""
     if not (following := next_plan(plan, results)):
         return []
     write_whole(plan.folder.schedule, schedule_text(following.matches))
@@ -460,7 +462,7 @@ def replaceable_match(plan: Plan, referee: Referee, match_id: str) -> Match:
 
 
 def order_again(path: str, referee: Referee, match_id: str, reason: str) -> Match:
-    """Plans another match that replaces this one, with the reason, and returns it."""
+    """Plans a match that replaces the match with this id, stores the reason, and returns the new match."""
     if not REASON.fullmatch(reason):
         raise Refused("--reason: expected 1 to 200 printable ASCII characters, without a space at either end")
     with held(path):

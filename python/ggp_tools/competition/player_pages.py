@@ -52,7 +52,7 @@ class Appearance:
 
 
 def times_of_role(asked: list[Message]) -> tuple[tuple[int, ...], int | None, int | None]:
-    """Returns how many response times of a role fall into each bar, how long its START took, and how long its longest PLAY took."""
+    """Returns how many response times of a role fall into each bar, how long START took, and how long the longest PLAY took."""
     starts, plays = ([message.ms for message in asked if message.kind == kind] for kind in (START, PLAY))
     counts = Counter(map(bar_of, plays))
     return tuple(counts[bar] for bar in range(BARS)), starts[-1] if starts else None, max(plays, default=None)
@@ -73,7 +73,7 @@ def errors_of_role(record: dict, role: int, asked: list[Message]) -> tuple[MoveE
 
 
 def appearances_of(result: Result, record: dict, run: Sequence[Event], ended: str | None) -> list[Appearance]:
-    """Returns the appearance of each role's player in a match, from the last run in its log."""
+    """Returns the appearance of each role's player in a match, from the last run in the log of the match."""
     by_role = [[message for message in messages(run) if message.role == role] for role in range(len(result.match.players))]
     return [
         Appearance(result, role, record["roles"][role], ended or "", *times_of_role(asked), errors_of_role(record, role, asked))

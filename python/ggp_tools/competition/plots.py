@@ -22,7 +22,7 @@ def drawn(plot: str, **values: object) -> "Markup":
 
 
 def rating_plot(lines: list[Line]) -> str:
-    """Plots the ratings of players with their intervals. If there are fewer than two ratings, the text is empty."""
+    """Plots the ratings of players with their intervals. If fewer than two players have ratings, returns an empty text."""
     rated = [line for line in lines if line.rating and line.rating.rating is not None][:MOST_ROWS]
     if len(rated) < 2:
         return ""
@@ -48,7 +48,7 @@ def ticks(least: int, most: int) -> range:
 
 
 def sampled(values: list[float]) -> list[tuple[int, float]]:
-    """Returns as many values as fit into a plot, including the last one, each with its number, counted from 1."""
+    """Returns as many values as fit into a plot, including the last value, each with its number in `values`, counted from 1."""
     step = max(1, -(-len(values) // MOST_POINTS))
     return [(at + 1, value) for at, value in enumerate(values) if (len(values) - 1 - at) % step == 0]
 

@@ -21,7 +21,7 @@ MOST_PAIRS, BYE = 32, "(bye)"
 
 
 def count_of_all(plan: Plan) -> int:
-    """Returns how many matches count if all are played, including those of rounds that are not planned yet."""
+    """Returns how many matches count if all are played, including the matches of rounds that are not planned yet."""
     return count_of_planned(plan) + (matches_to_come(plan.competition, plan.rounds) if plan.rounds else 0)
 
 
@@ -40,7 +40,7 @@ def round_text(competition: Competition, match: Match) -> str:
 
 
 def rounds_part(plan: Plan, results: list[Result], most: int) -> Part:
-    """Returns the pairings and their results in each planned round, the last one first, with at most this many rows."""
+    """Returns the pairings of each planned round with their results, the last round first. `most` limits the number of rows."""
     of_meeting = by_meeting(result for result in results if result.match.counts())
     rows = [row for planned in reversed(plan.rounds) for row in rows_of(plan.competition, planned, of_meeting)]
     return part("rounds", rows, rows=rows[:most], count=len(rows))

@@ -101,7 +101,7 @@ def matches_to_come(competition: Competition, rounds: Sequence[Round]) -> int:
 
 
 def withdrawn_by(competition: Competition, rounds: Iterable[Round]) -> dict[str, str]:
-    """Returns the players that have withdrawn, or that were withdrawn before one of these rounds, each with the reason."""
+    """Returns the players that have withdrawn, or that were withdrawn before one of `rounds`, each with the reason."""
     return {name: why for found in rounds for name, why in found.absent} | competition.withdrawn()
 
 
@@ -114,7 +114,7 @@ def is_by_rounds(competition: Competition) -> bool:
 
 
 def paired(order: Sequence[str], met: Counter[frozenset[str]]) -> list[tuple[str, str]]:
-    """Returns the pairs of an even number of players in this order."""
+    """Splits an even number of players, who are given in order, into pairs."""
     rest, pairs = list(order), []
     while rest:
         first = rest.pop(0)
@@ -192,7 +192,7 @@ class Rounds:
         self.seeds: list[str] = []
 
     def next(self, competition: Competition, results: Sequence[Result]) -> Round:
-        """Returns the next round. `results` are those of the last round that count."""
+        """Returns the next round. `results` has the results that count in the last round."""
         self.scores = self.scores or Scores(competition)
         if self.counted < len(self.found):
             self.count(results)
@@ -209,7 +209,7 @@ class Rounds:
         return replace(found, number=len(self.found) + 1, absent=tuple(new.items()))
 
     def next_of_knockout(self, competition: Competition, of_meeting: Mapping[Meeting, list[Result]]) -> Round:
-        """Returns the next round of a knockout between all players, or between the best ones of the rounds before it."""
+        """Returns the next round of a knockout: between all players, or between the best players of the earlier rounds."""
         before, final = self.found[swiss_rounds(competition) :], competition.form.final
         if not before:
             names = [player.name for player in competition.players if not final or player.name not in self.withdrawn]
@@ -249,7 +249,7 @@ def by_meeting(results: Iterable[Result]) -> dict[Meeting, list[Result]]:
 
 
 def rounds_won(competition: Competition, rounds: Sequence[Round], results: Iterable[Result], seeds: Sequence[str]) -> Counter[str]:
-    """Returns how many rounds of the knockout each of its players has won, by a bye or a pairing that is over."""
+    """Returns how many rounds of the knockout each player has won, by a bye or by a pairing that is over."""
     of_meeting, withdrawn, rounds_of_it = by_meeting(results), withdrawn_by(competition, rounds), rounds[swiss_rounds(competition) :]
     won = Counter(dict.fromkeys(rounds_of_it[0].players(), 0) if rounds_of_it else {})
     for found, following in itertools.zip_longest(rounds_of_it, rounds_of_it[1:]):
@@ -263,7 +263,7 @@ def rounds_won(competition: Competition, rounds: Sequence[Round], results: Itera
 
 
 def meetings(competition: Competition, found: Round) -> list[tuple[str, tuple[str, str]]]:
-    """Returns the matches of a round: for each game all pairs in one order of the roles, and then in the other."""
+    """Returns the matches of a round: for each game, all pairs in one order of the roles, and then all pairs in the other order."""
     return [(game.name, pair[::turn]) for game in competition.games for turn in (1, -1) for pair in found.pairs]
 
 

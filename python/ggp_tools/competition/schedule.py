@@ -41,7 +41,7 @@ class Match:
         return not self.again and not self.withdrawn
 
     def why_not(self) -> str:
-        """Says why the match does not count. If it counts, the text is empty."""
+        """Returns why the match does not count, or an empty text if the match counts."""
         return self.withdrawn or self.again and f"{self.again} replaces it: {self.reason}"
 
     def line(self) -> str:

@@ -10,7 +10,7 @@ from ggp_tools.competition.schedule import Match
 
 
 class Slots:
-    """The free slots of each player, and how often in a row it did not answer or was busy."""
+    """The free slots of each player, and how often in a row each player did not answer or was busy."""
 
     def __init__(self, competition: Competition) -> None:
         self.free = {player.name: player.concurrent for player in competition.players}

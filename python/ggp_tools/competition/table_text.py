@@ -43,19 +43,19 @@ def method_of(competition: Competition) -> str:
 
 
 def in_order(plan: Plan, results: Mapping[str, Result]) -> list[Result]:
-    """Returns the results in the order of the schedule. Each has its match in the form that the schedule has now."""
+    """Returns the results in the order of the schedule. Each result gets the match as the present schedule has it."""
     pairs = ((results[match.id], match) for match in plan.matches if match.id in results)
     return [result if result.match is match else replace(result, match=match) for result, match in pairs]
 
 
 def without_record(plan: Plan, results: Iterable[Result]) -> list[Match]:
-    """Returns the matches that have no result, in the order of the schedule, except those of players that have withdrawn."""
+    """Returns the matches that have no result, in the order of the schedule, except the matches of players that have withdrawn."""
     known = {result.match.id for result in results}
     return [match for match in plan.matches if match.id not in known and not match.withdrawn]
 
 
 def rounded(number: float | None, places: int) -> float | None:
-    """Rounds a number for a file, because its last digits may differ between computers."""
+    """Rounds a number for a file, because the last digits of the number may differ between computers."""
     return None if number is None else round(number, places) + 0.0
 
 
@@ -80,7 +80,7 @@ def points_text(points: float) -> str:
 
 
 def rating_text(table: Table, line: Line) -> str:
-    """Returns the rating with its interval, and its group if there are several."""
+    """Returns the rating in `line` with its interval, and with its group if the table has several groups."""
     if not line.rating or line.rating.rating is None:
         return "none"
     several = max(line.rating.group or 0 for line in table.lines.values() if line.rating) > 1

@@ -20,7 +20,7 @@ NO_MATCH = "try"
 
 
 def chosen(competition: Competition, path: pathlib.Path, name: str, game: str | None) -> tuple[Player, Game]:
-    """Returns the player and the game with these names. Refuses a player without a command."""
+    """Returns the player `name` and the game `game` of a competition. Refuses a player without a command."""
     player = next((player for player in competition.players if player.name == name), None)
     if not player or not player.command:
         raise Refused(f"{path}: {name} has no `command`; `ggp_manager check` tests a running player" if player else f"{path} has no player {name}")
@@ -31,7 +31,7 @@ def chosen(competition: Competition, path: pathlib.Path, name: str, game: str | 
 
 
 async def checked(started: StartedPlayer, referee: Referee, game: Game, rules: Rules) -> int:
-    """Starts a player, and returns the exit status of its check. If the player does not start, returns 1."""
+    """Starts a player, and returns the exit status of `check` for this player. If the player does not start, returns 1."""
     try:
         await started.ready(NO_MATCH)
         if not started.is_running():

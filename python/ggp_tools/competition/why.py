@@ -114,7 +114,7 @@ class Explanation:
         return players.index(player) if kind in OF_PLAYER and player in players else None
 
     def runs(self) -> list[list[Entry]]:
-        """Returns the messages of each run of the match. They come from the match's log, which may still be growing."""
+        """Returns the messages of each run of the match, from the log of the match. The log may still be growing."""
         open_log = self.folder.room_log(self.match.id)
         file = open_log if not self.record and open_log.is_file() else self.folder.log(self.match.id)
         with opened_file(file) if file.is_file() else contextlib.nullcontext(io.BytesIO()) as log:
@@ -124,7 +124,7 @@ class Explanation:
         return [[self.entry_of(message, run is runs[-1]) for message in run] for run in runs]
 
     def entry_of(self, message: Message, counts: bool) -> Entry:
-        """Explains a message to a role and its answer. If the message is in the record, also says which move was played."""
+        """Explains a message to a role and the role's answer. If the message is in the record, also says which move was played."""
         head = f"turn {message.turn()}: {PLAY}" if message.kind == PLAY else str(message.kind)
         came = message_of(message.came())
         text = f"{head} brought {came} after {message.ms} ms" if message.error else f"{head} was answered `{came}` after {message.ms} ms"
@@ -188,7 +188,7 @@ class Explanation:
         return [*retired, f"{goal}; {replaced} of {len(errors)} moves replaced", *forfeit]
 
     def lines(self, players: list[str]) -> Iterator[str]:
-        """Yields the lines of the explanation: everything that is known about what these players did in the match."""
+        """Yields the lines of the explanation: everything that is known about what `players` did in the match."""
         match = self.match
         who = ", ".join(f"{player} is {role}" for player, role in zip(match.players, self.roles))
         strikes, most = self.plan.competition.strikes, self.plan.competition.faults.replaced

@@ -33,6 +33,6 @@ def past(value: object) -> str:
 
 
 def named(game: Game, numbers: Sequence[int]) -> str:
-    """Cites some sentences with their lines in the text."""
+    """Cites the sentences with these numbers, each with its line in the text."""
     more = f" and {len(numbers) - MOST_NAMED:,} more" if len(numbers) > MOST_NAMED else ""
     return " and ".join(game.cited(number) for number in numbers[:MOST_NAMED]) + more

@@ -66,7 +66,7 @@ def sentence_starts(text: bytes) -> list[int]:
 
 
 def look_at_sentences(text: bytes) -> None:
-    """Checks sentences in the same way as `ggp-instantiate` before it grounds them."""
+    """Checks the sentences of a text in the way in which `ggp-instantiate` checks them before grounding."""
     description = text.decode("latin-1")
     try:
         Relations(all_rules(kif.expressions(description))).refuse_dependence()
@@ -91,7 +91,8 @@ def why_not(made: subprocess.CompletedProcess) -> str:
 
 
 def instantiated(path: pathlib.Path, text: bytes, tells_variables: bool, seconds: float, is_large: bool = False) -> tuple[bytes, bytes | None]:
-    """Returns the ground description that `ggp-instantiate` makes from a file, and the description for players if it is needed."""
+    """Returns the ground description that `ggp-instantiate` makes from a file, and the description for players if players need another
+    one."""
     large = ["--large"] if is_large else []
     key = kept.sum_of_work(text, [*large, *(["--player-rules"] if tells_variables else [])])
     if result := kept.kept(key):

@@ -34,7 +34,8 @@ def sum_of_state(state: State | bytes) -> bytes:
 
 
 class Played(Match):
-    """A match that stores its last state, but only checksums of the earlier ones. Its record has checksums instead of states."""
+    """A match that stores its last state, but only checksums of the earlier states. The record of the match has checksums instead of
+    states."""
 
     recorded = staticmethod(sum_of_state)
 
@@ -87,7 +88,7 @@ class RandomMatches:
         sys.setrecursionlimit(MOST_CALLS)
 
     def run(self, seed: int, count: int) -> None:
-        """Plays this many matches. Their seeds are consecutive numbers that begin with this one. Reports problems as notes."""
+        """Plays `count` matches. The seeds of the matches are consecutive numbers that begin with `seed`. Reports problems as notes."""
         try:
             for number in range(count):
                 self.play(seed + number, f"match {number + 1} of {count}")

@@ -18,14 +18,14 @@ class Sentences:
         self.text, self.starts, self.sentences = text, starts(text), expressions(text)
 
     def listed(self, numbers: list[int]) -> str:
-        """Cites some of these sentences, each with its place."""
+        """Cites some of the sentences with these numbers, each with its place."""
         cited = [f"{place_of(self.text, self.starts[number])}: {quoted(self.sentences[number], MOST_SHOWN)}" for number in numbers[:MOST_LISTED]]
         more = [f"and {len(numbers) - MOST_LISTED:,} more"] if len(numbers) > MOST_LISTED else []
         return "; ".join(cited + more)
 
 
 def roles_named_again(sentences: list[Expression]) -> list[list[int]]:
-    """For each role that is named more than once, returns the sentences that name it."""
+    """For each role that is named more than once, returns the sentences that name this role."""
     naming = (number for number, sentence in enumerate(sentences) if sentence[:1] == ("role",))
     return [numbers for numbers in grouped(naming, sentences.__getitem__).values() if len(numbers) > 1]
 

@@ -116,7 +116,7 @@ class Index:
                 self.table.setdefault(place, []).append(atom)
 
     def alike(self, atom: Expression) -> Iterable[Expression]:
-        """Returns candidates that may equal an atom: those that agree with it at one path, the one with the fewest candidates."""
+        """Returns candidates that may equal `atom`: the candidates that agree with `atom` at the path that leaves the fewest candidates."""
         # If a sentence has a variable at the path or above it, any value may be there.
         groups = (
             [self.table.get((way[:length], None), ()) for length in range(len(way) + 1)] + [self.table.get((way, word), ())]
@@ -138,7 +138,7 @@ class Atoms:
         return {*self.plain, *self.open}
 
     def like(self, atom: Expression) -> Iterator[Expression]:
-        """Yields the sentences that can be equal to this one. If this one is among them, it comes first."""
+        """Yields the sentences that can be equal to `atom`. If `atom` itself is one of these sentences, it comes first."""
         key, is_open = relation(atom), bool(variables(atom))
         if not is_open and atom in self.plain.get(key, ()):
             yield atom
@@ -149,7 +149,7 @@ class Atoms:
                 yield from (candidate for candidate in self.indexes[name, key].alike(atom) if may_be(candidate, atom))
 
     def may_give(self, atom: Expression) -> bool:
-        """Returns whether one of the sentences can be equal to this one."""
+        """Returns whether one of the sentences can be equal to `atom`."""
         asked = without_names(atom)
         if asked not in self.answers:
             self.answers[asked] = next(self.like(asked), None) is not None
@@ -237,7 +237,8 @@ def shown_form(name: str, count: int | None) -> str:
 
 
 def listed(name: str, counts: Sequence[int | None]) -> str:
-    """Returns the forms of a relation with these numbers of arguments. If there are many, returns only the first few."""
+    """Returns the forms of the relation `name` with the numbers of arguments in `counts`. If there are many forms, returns only the first
+    few."""
     return " and ".join([f"`{shown_form(name, count)}`" for count in counts[:MOST_LISTED]] + ["others"] * (len(counts) > MOST_LISTED))
 
 
@@ -371,7 +372,7 @@ class Search:
                     yield from self.of_instance(atom, words, ("role", atom[1]))
 
     def of_instance(self, atom: Expression, words: str, kind: tuple) -> Iterator[Finding]:
-        """Yields the finding for an instance. If only one head can have this instance, the finding has that head's place."""
+        """Yields the finding for a ground atom. If only one head can give this atom, the finding has the place of that head."""
         parts = [] if atom in self.parts else [part for head in self.heads.like(atom) for part in self.parts[head]]
         if parts:
             is_sure = len(parts) == 1

@@ -49,7 +49,7 @@ class Program:
         self.space = {"NONE": (), "ONE": (0,), "Whole": positions.Whole, "BUSY": object(), "GoesRound": GoesRound, "low": low}
 
     def function(self, relation: Relation, known: tuple[bool, ...]) -> Callable:
-        """Returns the function of a relation for queries that give these arguments."""
+        """Returns the function of a relation for queries that give the arguments in `known`."""
         name = self.name(relation, known)
         while self.waiting:
             waiting, self.waiting = self.waiting, []
@@ -87,7 +87,8 @@ class Program:
         return number
 
     def facts(self, relation: Relation, places: tuple[int, ...] | None) -> str:
-        """Returns the name of a table with all facts of a relation, or of an index of the facts by these arguments."""
+        """Returns the name of a table with all facts of a relation. If there are `places`, returns the name of an index of the facts by
+        these arguments."""
         key = "facts", relation, places
         if key not in self.made:
             rows = self.relations.facts.get(relation, {})
@@ -441,7 +442,7 @@ class Asking:
         lines.put(2, f"F[{key_text([f'R[{at}]' for at, is_given in enumerate(self.known) if not is_given])}] = None")
 
     def put_rule(self, lines: Lines, arguments: Sequence[Term], body: tuple[Condition, ...]) -> None:
-        """Writes the lines of a rule. The known arguments must match its head."""
+        """Writes the lines of a rule. The known arguments must match the head of the rule."""
         bound = {}
         lines.put(1, "for _ in ONE:")
         for at, argument in enumerate(arguments):

@@ -71,7 +71,7 @@ class Following:
         self.in_order = list(map(self.term, roles))
 
     def look_at_state(self, when: str, state: State, texts: list[str], cited: Callable) -> None:
-        """Checks that the record has this state."""
+        """Checks that `texts`, a state of the record, has exactly the terms of `state`."""
         own = {self.text(term): term for term in state}
         if own.keys() == set(texts) and len(texts) == len(own):
             return
@@ -129,14 +129,14 @@ class Following:
                 raise Differs(f"{when}: {words}, by {self.game.cited(greatest[0])}")
 
     def least_place(self, role: str, move: Term) -> tuple[int, tuple]:
-        """Returns the earliest possible place of a move: that of the first sentence that could derive the move in some state."""
+        """Returns the earliest possible place of a move: the place of the first sentence that could derive the move in some state."""
         for number, rules in self.game.by_sentence(LEGAL).items():
             if any(fits(rule.arguments, (role, move), {}) for rule in rules):
                 return number, place(move)
         raise NotFollowed(f"no head of a sentence fits the legal move {quoted(move)}")
 
     def greatest_place(self, position: Position, role: str, move: Term) -> tuple[int, tuple]:
-        """Returns the latest possible place of a move: that of the first sentence that has derived the move so far."""
+        """Returns the latest possible place of a move: the place of the first sentence that has derived the move so far."""
         numbers = self.game.sources(LEGAL, (role, move), position.state)
         first = min([*numbers, self.seen.get((role, move), numbers[0])])
         self.seen[role, move] = first

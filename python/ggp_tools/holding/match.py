@@ -15,7 +15,7 @@ def texts_of(state: State) -> list[str]:
 
 
 class Match:
-    """A match: its turns so far, and by role number the marks of START and those of the end."""
+    """A match: the turns so far, and, by role number, the marks of START and the marks of the end."""
 
     # How the record represents a state.
     recorded = staticmethod(texts_of)

@@ -23,7 +23,7 @@ class Table(NamedTuple):
     values: Sequence[float]
 
     def answers(self, arguments: Sequence[Term], bound: Container[str]) -> float:
-        """Returns the average number of rows that match the arguments if these variables are bound."""
+        """Returns the average number of rows that match the arguments if the variables in `bound` are bound."""
         rows = self.rows
         for argument, values in zip(arguments, self.values):
             if is_known(argument, bound):
@@ -57,12 +57,13 @@ class Sizes:
         return Sizes(self.relations, int(self.moves.rows), {**self.terms, **larger})
 
     def answers(self, condition: Asked, bound: Container[str]) -> float:
-        """Returns how many answers a condition has if these variables are bound."""
+        """Returns how many answers a condition has if the variables in `bound` are bound."""
         arguments, table = self.table(condition)
         return table.answers(arguments, bound)
 
     def table(self, condition: Asked) -> tuple[Sequence[Term], Table]:
-        """Returns the arguments of a condition, or of its term, and the table for them."""
+        """Returns the arguments of a condition, and the table for them. If the relation is `true`, returns the arguments of the term in the
+        condition."""
         relation, arguments = condition.relation, condition.arguments
         if relation == DOES:
             return arguments, self.moves

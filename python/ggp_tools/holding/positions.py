@@ -20,7 +20,7 @@ def functor_of(term: Term) -> tuple[str, int]:
 
 
 def index_of(rows: Iterable[Term], places: tuple[int, ...]) -> Rows:
-    """Groups rows by their values at these indices: by one value, or by a tuple of several."""
+    """Groups rows by their values at the indices `places`: by one value, or by a tuple of several values."""
     return grouped(rows, itemgetter(*places))
 
 

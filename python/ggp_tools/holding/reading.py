@@ -45,7 +45,7 @@ Condition = Asked | Same | Either
 
 
 class Rule(NamedTuple):
-    """A rule: if all conditions hold, it derives this sentence of the relation."""
+    """A rule: if all conditions of the body hold, the sentence of the relation with these arguments is true."""
 
     sentence: int
     relation: tuple
@@ -89,7 +89,7 @@ def condition_of(literal: gdl.Literal) -> Condition:
 
 
 def tests_of(literal: Expression, positive: bool = True) -> list[Condition]:
-    """Returns conditions that together are equivalent to a literal, or to its negation. An `or` stays one condition."""
+    """Returns conditions that together are equivalent to a literal, or to the negation of the literal. An `or` stays one condition."""
     match literal:
         case ("not", inner):
             return tests_of(inner, not positive)
@@ -120,7 +120,7 @@ def one_by_one(rules: list[Rule]) -> list[Rule]:
 
 
 def with_relations(rules: list[Rule]) -> list[Rule]:
-    """Returns the rules of the game's own relations, and those of the atomic sentences that became relations."""
+    """Returns the rules of the game's own relations, and the rules of the atomic sentences that became relations."""
     asked, made = {condition.relation for rule in rules for condition in all_asked(rule.body)}, []
     for rule in rules:
         separate = alone(Asked(True, rule.relation, rule.arguments)).relation

@@ -32,7 +32,7 @@ class Relations:
         return next(rule.sentence for rule in self.rules[head] if any(condition.relation == asked for condition in all_asked(rule.body)))
 
     def take(self, group: set[Relation]) -> None:
-        """Classifies relations that depend on each other. The relations that they use have already been classified."""
+        """Classifies relations that depend on each other. All other relations that these relations use have already been classified."""
         if any(asked in self.timely for relation in group for asked in self.asks[relation]):
             self.timely |= group
         if len(group) == 1 and not group & self.asks[next(iter(group))].keys():
@@ -47,7 +47,7 @@ class Relations:
 
 
 def without_or(rule: Rule, group: set[Relation]) -> Iterator[Rule]:
-    """Yields equivalent rules without an `or` that uses one of these relations."""
+    """Yields equivalent rules without an `or` that uses a relation of `group`."""
     for index, condition in enumerate(rule.body):
         if isinstance(condition, Either) and any(asked.relation in group for asked in all_asked((condition,))):
             for way in condition.ways:

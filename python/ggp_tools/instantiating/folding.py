@@ -117,7 +117,7 @@ class Folded:
         return users
 
     def of_part(self, part: int, asked_by: dict[int, list[tuple[int, Formed]]], known: dict[int, Counter[int]]) -> Counter[int]:
-        """Returns the origins of a part, which are those of the bodies that use it."""
+        """Returns the origins of a part: the origins of the bodies that use the part."""
         if part not in known:
             known[part] = Counter()
             for head, body in asked_by[part]:

@@ -60,7 +60,7 @@ class Written(NamedTuple):
     is_large: bool = False
 
     def as_large(self) -> "Written":
-        """Returns the same description with the large limits, and with a note about it."""
+        """Returns the same description with the large limits, and with a note about the large limits."""
         text = f"; {limits.LARGE_NOTE}\n{self.text}"
         figures = [(name, len(text) if name == "bytes" else count, limits.LARGE.get(name, most)) for name, count, most in self.figures]
         return self._replace(text=text, figures=figures, notes=[limits.LARGE_NOTE, *self.notes], is_large=True)
@@ -111,7 +111,7 @@ class Making:
         return self.reported(self.first_within(forms(rules, is_whole, self.is_split)))
 
     def first_within(self, tried: list[Form]) -> Written:
-        """Returns the first form that is within the limits, or the last one if none is."""
+        """Returns the first form that is within the limits. If no form is within the limits, returns the last form."""
         done = []
         for form in tried:
             if any(form.rules is rules for rules in done) or (self.best and self.best.is_far_past()):
@@ -235,7 +235,7 @@ class Making:
         return written.as_large() if any(name in FOLDABLE for name, _, _ in written.past()) else written
 
     def reported(self, written: Written) -> str:
-        """Reports the result and the limits. Returns the text, or refuses it if a limit is exceeded."""
+        """Reports the result and the limits. Returns the text of the result, or refuses the result if it exceeds a limit."""
         report(f"ggp-instantiate: {counted(len(self.sentences), 'sentence')} gave {counted(len(written.sentences), 'ground one')}, in {time.monotonic() - self.began:.2f} s")
         for note in written.notes:
             report(f"  {note}")

@@ -169,7 +169,7 @@ def layers(circle: list[Expression], rules_for: RulesFor, last: int, word: str) 
 
 
 def unrolled(rules: list[Rule]) -> tuple[list[Rule], list[tuple[Expression, int, int]]]:
-    """Returns the rules without cycles, and for each cycle a sentence, its size and its last round."""
+    """Returns the rules without cycles, and for each cycle a sentence of the cycle, the size of the cycle, and its last round."""
     cycles = circles(rules)
     if not cycles:
         return rules, []

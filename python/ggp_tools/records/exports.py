@@ -95,7 +95,7 @@ def match_of(judged: Judged, logged: list[Beginning], games_address: str | None)
 
 
 def write_matches(folder: pathlib.Path, lawful: Iterable[tuple[int, Judged]], logs: MatchLogs, games_address: str | None) -> None:
-    """Writes a file for each record. Its name begins with the number of the record."""
+    """Writes a file for each record. The name of the file begins with the number of the record."""
     folder.mkdir(parents=True, exist_ok=True)
     for number, judged in lawful:
         match = match_of(judged, logs.of(judged.line.match_id), games_address)

@@ -100,7 +100,7 @@ class Facts:
         }
 
     def without_log(self, data: bytes) -> bytes:
-        """Returns the line of a record. If several matches have its id, the values from logs are removed."""
+        """Returns the JSON line about a record. If several matches have the id of the record, the values from logs are removed."""
         values = json.loads(data)
         if self.faults.get(values["id"]) != TWO_RECORDS:
             return data

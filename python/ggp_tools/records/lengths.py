@@ -38,13 +38,13 @@ def longest_record(rules: bytes) -> int:
 
 
 def without_states(data: bytes) -> bytes:
-    """Empties the list of states of a record. The states make up nearly all of its length."""
+    """Empties the list of states of a record. The states make up nearly all of the record's length."""
     at, end = data.find(STATES), data.find(AFTER_STATES)
     return data if at < 0 or end < at else data[: at + len(STATES)] + data[end:]
 
 
 def states_in(data: bytes, most: int | None = None) -> Iterator[list[str]]:
-    """Yields as many of a record's first states as fit into this many bytes."""
+    """Yields the first states of a record, as many as fit into `most` bytes."""
     begin = data.find(STATES) + len(STATES)
     text, index = data[begin : None if most is None else begin + most].decode("latin-1"), 0
     decoder = json.JSONDecoder()

@@ -84,7 +84,7 @@ class Beginning:
             self.turns[message.turn()] = max(message.time + message.ms, self.turns.get(message.turn(), 0))
 
     def is_over(self) -> bool:
-        """Returns whether the match may have a record. It has none if the referee ran out of a resource."""
+        """Returns whether the match may have a record. If the referee ran out of a resource, the match has no record."""
         return self.has_end and not self.is_short
 
     def messages(self) -> Iterator[tuple[int, ...]]:
@@ -107,7 +107,7 @@ class Beginning:
 
 
 def beginnings(found: Iterable[Event]) -> Iterator[tuple[str, Beginning]]:
-    """Yields the matches of a log with their ids. If a match begins again before it is over, its earlier run is dropped."""
+    """Yields the matches of a log with their ids. If a match begins again before it is over, the earlier run is dropped."""
     open_matches: dict[str, tuple[Runs, Beginning]] = {}
     for event in found:
         if isinstance(event, Other):
@@ -151,6 +151,6 @@ class MatchLogs:
                 self.others += 1
 
     def of(self, match_id: str) -> list[Beginning]:
-        """Returns the match with this id. If it is not known which of several matches is meant, returns all of them."""
+        """Returns the match with this id. If several matches could be meant, returns all of these matches."""
         unfinished, over = self.found.get(match_id, ([], []))
         return over or unfinished

@@ -111,7 +111,8 @@ def is_text_or_null(value: object) -> bool:
 
 
 def is_list(value: object, is_member: Kind, lengths: list[int] | None = None) -> bool:
-    """Returns whether a value is a list of members that `is_member` accepts. If `lengths` is given, its length must be one of them."""
+    """Returns whether a value is a list of members that `is_member` accepts. If `lengths` is given, the list must have one of these
+    lengths."""
     return isinstance(value, list) and all(map(is_member, value)) and (lengths is None or len(value) in lengths)
 
 
@@ -219,7 +220,7 @@ def checked_record(record: object, is_cut: bool = False) -> dict:
 
 
 def read_record(data: bytes) -> dict:
-    """Parses a record. If it is longer than 16 MiB, `states` has only the first states that fit into 16 MiB."""
+    """Parses a record. If the record is longer than 16 MiB, `states` has only the first states that fit into 16 MiB."""
     # The newline at the end is not part of the record.
     if len(data) - data.endswith(b"\n") <= LONGEST_RECORD:
         return checked_record(parsed(data))
@@ -233,7 +234,7 @@ def read_record(data: bytes) -> dict:
 
 
 def record_sum(data: bytes) -> str:
-    """Returns the checksum of a record's line, with one LF at its end."""
+    """Returns the checksum of a record's text line, with one LF at the end of the line."""
     return hashlib.sha256(data.rstrip(b"\r\n") + b"\n").hexdigest()
 
 

@@ -82,7 +82,7 @@ Group = tuple[str, int]
 
 
 def record_of(file: BinaryIO) -> bytes:
-    """Returns the record of a file that has one record. The call log that `run --history` writes after it is skipped."""
+    """Returns the record of a file that has one record. If `run --history` wrote a call log after the record, the call log is skipped."""
     first, second = file.readline(LONGEST_RECORD + 2), file.readline(LONGEST_RECORD + 2)
     if ACCOUNT_LINE.fullmatch(second.rstrip(b"\r\n")):
         for number, line in numbered_lines(file):
@@ -340,7 +340,7 @@ def board_opening(across: tuple[str, ...], up: tuple[str, ...], lean: int, place
 def board_page(
     board: Board, places: Places, before: Places | None, ground: str | None, marks: dict[str, Mark], is_played: bool = False
 ) -> "Markup":
-    """Returns a board as HTML, with changed places marked as new. If a person plays, it has a button for each place."""
+    """Returns a board as HTML, with changed places marked as new. If a person plays, the board has a button for each place."""
     cells, shown = [], board.places if board.lean else board.grid() if is_played else ()
     for at in sorted({*places, *(before or {}), *shown}):
         own = places.get(at, [])
@@ -379,7 +379,7 @@ def states_of_page(
 
 
 def quick(named: Named) -> Named:
-    """Returns the names in the rules. If they are too many to be read, returns no names, but keeps the shape of the boards."""
+    """Returns the names in the rules. If there are too many names to read, returns no names, but keeps the shape of the boards."""
     return Named(is_hex=named.is_hex) if sum(map(len, named.terms.values())) > MOST_READ else named
 
 

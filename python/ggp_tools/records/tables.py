@@ -96,7 +96,7 @@ def write_sqlite(path: pathlib.Path, lines: Iterable[Judged]) -> None:
 
 
 def write_csv(folder: pathlib.Path, lines: Iterable[Judged]) -> None:
-    """Writes a CSV file for each table. Its first row has the names of the columns."""
+    """Writes a CSV file for each table. The first row of the file has the names of the columns."""
     folder.mkdir(parents=True, exist_ok=True)
     with contextlib.ExitStack() as files:
         writers = {table: csv.writer(files.enter_context(open(folder / f"{table}.csv", "w", encoding="utf-8", newline=""))) for table in TABLES}

@@ -96,7 +96,7 @@ def pieces(size: int) -> Iterator[bytes]:
 
 
 def own_words(text: str) -> bytes:
-    """Returns the bytes of a message of this command. Paths in it are printed as they were given."""
+    """Returns the bytes of a message of this command. Paths in the message are printed as they were given."""
     return os.fsencode(f"ggp-verify-records: {text}\n")
 
 

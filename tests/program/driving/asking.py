@@ -189,7 +189,7 @@ def reset(connection):
 
 
 def answers(reply, thinking=0):
-    """Returns a function that reads a request, waits, and sends these bytes."""
+    """Returns a function that reads a request, waits, and sends the bytes `reply`."""
 
     def serve(connection):
         body_of(connection)
@@ -200,5 +200,5 @@ def answers(reply, thinking=0):
 
 
 def told(answer, thinking=0):
-    """Returns a function that reads a request, waits, and sends this answer."""
+    """Returns a function that reads a request, waits, and sends `answer`."""
     return answers(f"HTTP/1.0 200 OK\r\nContent-Length: {len(answer)}\r\n\r\n{answer}".encode(), thinking)

@@ -79,7 +79,7 @@ def stopped(namespace: str, seconds: float) -> Iterator[None]:
 
 
 class Ann(threading.Thread):
-    """A player in a namespace. Before it answers the first PLAY, it calls a function with its port."""
+    """A player in a namespace. Before the player answers the first PLAY, it calls a function with the player's port."""
 
     def __init__(self, namespace: str, host: str, before: Callable[[int], object] = lambda _: None) -> None:
         super().__init__(daemon=True)
@@ -120,7 +120,7 @@ def played(namespace: str, program: str, address: str, seconds: int, rules: str 
 
 
 def blamed(case: str, ended: Ended, marks: list[str]) -> Iterator[str]:
-    """Checks that there is a record, and that the player has these errors in it. Yields the differences."""
+    """Checks that there is a record, and that the player has the errors `marks` in the record. Yields the differences."""
     if (ended.status, ended.marks()) != (0, marks):
         yield f"{case}: expected a record with {marks}, got status {ended.status}, {ended.marks()}, {ended.errors!r}"
 

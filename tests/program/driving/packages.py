@@ -29,7 +29,7 @@ def installed(text: str) -> dict[str, Package]:
 
 
 def closure(wanted: typing.Iterable[str], known: dict[str, Package]) -> list[str]:
-    """Returns packages with all installed packages that they depend on."""
+    """Returns the packages `wanted`, and all installed packages on which these packages depend."""
     of_name = {name: package for package, found in known.items() for name in found.provides} | {name: name for name in known}
     found, left = set(), [*wanted]
     while left:

@@ -14,7 +14,7 @@ PATIENCE = 1800
 
 
 def schedule(pairs, clocks="600 600", name="m"):
-    """Returns a schedule with a match for each of these pairs, the red player first, and the ids of the matches."""
+    """Returns a schedule with a match for each pair in `pairs`, the red player first, and the ids of the matches."""
     ids = [f"{name}{number}" for number in range(len(pairs))]
     return "".join(f"{match} {clocks} {red.address()} {blue.address()}\n" for match, (red, blue) in zip(ids, pairs)), ids
 
@@ -30,7 +30,7 @@ def run(program, words, text=""):
 
 
 def start(program, words, plan, records, **more):
-    """Starts a season with this schedule, whose records are written to this file."""
+    """Starts a season with the schedule `plan`. The records of the season are written to the file `records`."""
     with tempfile.TemporaryFile() as given:
         given.write(plan.encode())
         given.seek(0)
@@ -47,7 +47,8 @@ def all_said(child):
 
 
 def ended(child):
-    """Returns the exit status of a program, and its standard error if that is a pipe. A program that does not end is killed."""
+    """Returns the exit status of a program. If its standard error is a pipe, also returns the standard error. Kills a program that does not
+    end."""
     told = all_said(child)[1]
     return child.returncode, told
 
@@ -83,7 +84,7 @@ def records_in(lines):
 
 
 def errors_of(record):
-    """Returns the errors of a record's moves, and of its answers to START, STOP and ABORT."""
+    """Returns the errors of the moves in a record, and the errors of the answers to START, STOP and ABORT."""
     return [error for turn in (*record["errors"], record["startMarks"], record["endMarks"]) for error in turn if error]
 
 
