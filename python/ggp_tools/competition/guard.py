@@ -6,13 +6,14 @@ has ended, and when the programs that `play` was starting at that moment have be
 import contextlib
 import os
 import pathlib
+import selectors
 import signal
 import sys
 import time
 
 MARK = "GGP_COMPETITION_PLAY"
-# A killed process may need this many seconds to end. Between two searches there is a pause.
-END_SECONDS, PAUSE = 15, 0.01
+# A killed process may need this many seconds to end.
+END_SECONDS = 15
 
 
 def marked(value: str) -> list[int]:
@@ -26,14 +27,25 @@ def marked(value: str) -> list[int]:
     return found
 
 
+def end(process: int, seconds: float) -> None:
+    """Kills a process, and waits until it has ended, but at most this many seconds."""
+    descriptor = os.pidfd_open(process)
+    try:
+        signal.pidfd_send_signal(descriptor, signal.SIGKILL)
+        with selectors.DefaultSelector() as ended:
+            ended.register(descriptor, selectors.EVENT_READ)
+            ended.select(seconds)
+    finally:
+        os.close(descriptor)
+
+
 def end_marked(value: str) -> None:
     """Kills the processes whose mark is `value`, and all processes that these processes start meanwhile."""
     until = time.monotonic() + END_SECONDS
-    while (found := marked(value)) and time.monotonic() < until:
+    while (found := marked(value)) and (left := until - time.monotonic()) > 0:
         for process in found:
             with contextlib.suppress(ProcessLookupError):
-                os.kill(process, signal.SIGKILL)
-        time.sleep(PAUSE)
+                end(process, left)
 
 
 def main() -> None:
