@@ -239,6 +239,10 @@ class Accounts(unittest.TestCase):
             fault = self.fault(*before, *[hold] * (most + clock + 1), *after)
             self.assertRegex(fault, f"line {at + most + clock + 1} of its call log is not a call that a referee would make at this point: . next cup-001 . hold")
 
+        # With one role, fewer replies wake it.
+        alone = [b"0\topen cup-001 0 7 6 ann\topened\n", b"1\tnext cup-001 0\towe 0 start\n", b"1\tsubmit cup-001 0 0 ready\ttaken\n"]
+        found = [self.fault(*alone, *[b"1\tnext cup-001 0\thold 0\n"] * (MOST_HOLDS + 7 + count), b"1\tnext cup-001 0\tover\n") for count in (2, 3)]
+        self.assertEqual([fault is None for fault in found], [True, False])
         # In each round it may wait again.
         rounds = (CALL_LINES[1:4], [b"1\tnext cup-001 0\thold 0\n"] * (most + 7), CALL_LINES[6:11], [b"1\tnext cup-001 0\thold 1\n"] * (most + 6), CALL_LINES[11:])
         self.assertIsNone(self.fault(head, *sum(rounds, [])))
@@ -248,6 +252,7 @@ class Accounts(unittest.TestCase):
             self.assertIsNone(fault_of_account(CALLS))
         with mock.patch.object(call_logs, "MOST_CALLS", len(CALL_LINES) - 1):
             self.assertRegex(fault_of_account(CALLS), "line 17 of its call log is not a call")
+        self.assertEqual(call_logs.MOST_CALLS, 1_000_000)
 
     def test_the_part_of_each_role_comes_to_its_end(self):
         self.assertEqual(self.fault(*CALL_LINES[:-1]), "its call log ends after line 16, before each role's part is over")

@@ -86,6 +86,15 @@ class Histories(unittest.TestCase):
         (self.folder.earlier / "6.toml").write_text("x = 1\n")
         self.assertIn(f"{self.folder.earlier / '6.toml'}:1: name: the key is missing", str(raised(Refused, read_history, self.folder, COMPETITION)))
 
+    def test_an_earlier_file_has_as_many_bytes_as_a_competition_may_have(self):
+        self.add_earlier("6.toml")
+        for size, refused in ((4 << 20, False), ((4 << 20) + 1, True)):
+            (self.folder.earlier / "6.toml").write_text(TOML.ljust(size))
+            if refused:
+                self.assertIn("6.toml:1: the file has more than 4,194,304 bytes", str(raised(Refused, read_history, self.folder, COMPETITION)))
+            else:
+                self.assertEqual(len(read_history(self.folder, COMPETITION).earlier), 1)
+
     def test_orders_are_read_as_they_are_written(self):
         orders = Again("cup-5", "cup-1", "a  reason"), Again("c" * 60, "cup-5", "x" * 200), Again("c_.-9", "C" * 60, "~")
         text = again_text(orders)

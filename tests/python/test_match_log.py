@@ -60,7 +60,7 @@ class Lines(unittest.TestCase):
     def test_values_that_no_log_has(self):
         for values in (
             {"role": -1}, {"role": True}, {"role": 1.0}, {"role": None}, {"number": 0}, {"time": MOST_NUMBER + 1}, {"ms": MOST_MS + 1}, {"time": "now"},
-            {"match": ""}, {"match": "a b"}, {"player": "x" * 65}, {"player": "\u001b"}, {"kind": "INFO"}, {"kind": "STOP"}, {"round": None}, {"error": "TO"},
+            {"match": ""}, {"match": "a b"}, {"player": "x" * 65}, {"player": "\u001b"}, {"kind": "INFO", "round": None}, {"kind": "STOP"}, {"round": None}, {"error": "TO"},
             {"answer": None}, {"answer": None, "error": "RT"}, {"answer": "\u0100"}, {"answer": "\ud800"}, {"message": 1}, {"reason": 1},
         ):
             self.assertIsNone(event_of(changed(**values)), values)
@@ -96,7 +96,8 @@ class Files(unittest.TestCase):
         self.assertEqual(run(found, "m1"), [host, again, MISSED])
         self.assertEqual(run(found[:7], "m1"), [Host("m1", "one"), Open("m1", 5), MESSAGE])
         self.assertEqual((run(found, "m2"), run(found, "m3"), run([MESSAGE], "m1")), ([Open("m2", 10)], [], [MESSAGE]))
-        self.assertEqual(run([Open("m1", 5), MESSAGE, again], "m1"), [again])
+        ended = [Open("m1", 5), MESSAGE, End("m1", 6, "STOP")]
+        self.assertEqual([run(ended, "m1"), run([*ended, again], "m1")], [ended, [again]])
         # Another role's START may be answered before the event of the first role.
         early = [MISSED, Open("m1", 5), MESSAGE]
         self.assertEqual([run(found, "m1") for found in (early, early * 2, [host, *early] * 2)], [early, early, [host, *early]])

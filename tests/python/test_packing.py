@@ -86,7 +86,9 @@ HEAD = tar_of(FIRST)[: 2 * 512 + sum(len(data) + -len(data) % 512 for data in FI
 class Packing(InFolder):
     def test_what_is_packed_is_unpacked_by_all_programs(self):
         tar = tar_of(FILES)
-        self.assertEqual(unpacked(tar), FILES)
+        self.assertEqual((unpacked(tar), unpacked(tar_of(FIRST))), (FILES, FIRST))
+        with mock.patch.object(packing, "AT_ONCE", 512):
+            self.assertEqual(unpacked(tar), FILES)
         with tarfile.open(fileobj=io.BytesIO(tar)) as archive:
             self.assertEqual({member.name: archive.extractfile(member).read() for member in archive}, FILES)
         subprocess.run(["tar", "x"], input=tar, cwd=self.folder, check=True)

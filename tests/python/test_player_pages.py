@@ -4,10 +4,11 @@ import unittest
 from dataclasses import replace
 from unittest import mock
 
-from ggp_tools.competition.player_pages import MoveError, appearances_of, player_parts
-from ggp_tools.competition.plots import BARS, bar_of
+from ggp_tools.competition.player_pages import MoveError, appearances_of, errors_part, longest_text, player_parts, reason_of, standing_texts
+from ggp_tools.competition.plots import BARS, bar_of, times_plot
 from ggp_tools.competition.results import result_of
 from ggp_tools.competition.schedule import Match
+from ggp_tools.competition.table import Line, Table
 from ggp_tools.match_log import Event, Open, event_of
 from live_support import Missed, line
 
@@ -86,3 +87,21 @@ class Appearances(unittest.TestCase):
         self.assertEqual(parts["seats"]["rows"], [("nim", "x", ["2", "100.00", "24 of 24", "30 ms", "3 ms"])])
         self.assertEqual([(match, error.turn) for match, error, _ in parts["errors"]["rows"]], [(name, turn) for name in ("cup-001", "cup-003") for turn in range(12, 2, -1)])
         self.assertEqual(parts["errors"]["count"], 24)
+        self.assertEqual(parts["times"]["plot"], times_plot([[bar_of(1), bar_of(3)].count(bar) for bar in range(BARS)]))
+        with mock.patch("ggp_tools.competition.player_pages.part") as made:
+            errors_part(found[:1] * 11)
+        self.assertEqual(len(made.call_args.kwargs["rows"]), 100)
+
+    def test_what_an_error_means(self):
+        wanted = "the referee lacked a resource", "no answer came in time", "the answer was not a legal move"
+        self.assertEqual(tuple(map(reason_of, ("lost (out of memory)", "TO", "IL"))), wanted)
+
+    def test_the_longest_of_the_known_times(self):
+        self.assertEqual([longest_text(times) for times in ([7, None, 1_234], [None], [])], ["1,234 ms", "", ""])
+
+    def test_the_standing_of_a_player(self):
+        lines = {"ann": Line("ann", matches=2, moves=5, replaced=2, lost=2), "bob": Line("bob", matches=1, moves=4, won=1, scored=1, goals=100)}
+        self.assertEqual(standing_texts(Table("all games", lines)), {
+            "bob": "Place 1 of 2 in all games: 1 match, mean goal 100.00, 1 won, 0 drawn, 0 lost; 0 of 4 moves replaced.",
+            "ann": "Place 2 of 2 in all games: 2 matches, mean goal none, 0 won, 0 drawn, 2 lost; 2 of 5 moves replaced.",
+        })

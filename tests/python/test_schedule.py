@@ -116,7 +116,7 @@ class Schedule(unittest.TestCase):
             return [" ".join(match.players) for match in matches(*words)]
 
         self.assertEqual(seated(3, 1, 'kind = "round_robin"\nrounds = 2'), ["p0", "p1", "p2"] * 2)
-        self.assertEqual(seated(3, 1, 'kind = "gauntlet"\none = "p1"'), ["p0", "p1", "p2"])
+        self.assertEqual(seated(3, 1, 'kind = "gauntlet"\none = "p1"\nrounds = 2'), ["p0", "p1", "p2"] * 2)
         one_round = ["p1 p0", "p1 p2", "p0 p1", "p2 p1"]
         self.assertEqual(seated(3, 2, 'kind = "gauntlet"\none = "p1"\nrounds = 2'), one_round * 2)
         self.assertEqual(seated(4, 2), ["p0 p1", "p1 p2", "p2 p3", "p3 p0", "p0 p2", "p1 p3", "p2 p0", "p3 p1", "p0 p3", "p1 p0", "p2 p1", "p3 p2"])

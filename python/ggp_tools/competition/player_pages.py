@@ -61,7 +61,7 @@ def times_of_role(asked: list[Message]) -> tuple[tuple[int, ...], int | None, in
 def errors_of_role(record: dict, role: int, asked: list[Message]) -> tuple[MoveError, ...]:
     """Returns the last errors of a role in a match."""
     turns = [turn for turn, errors in enumerate(record["errors"], 1) if errors[role]][-MOST_OF_MATCH:]
-    plays = {message.turn(): message for message in asked if message.kind == PLAY} if turns else {}
+    plays = {message.turn(): message for message in asked}
     errors = []
     for turn in turns:
         message = plays.get(turn)
