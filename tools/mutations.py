@@ -1,5 +1,5 @@
-"""The mutations of the crates: wrong changes to the code that the contracts must refuse. The gate tries those of crates/NAME/must-fail, in the
-toolchain's format. The others are in tests/mutations/NAME.txt, each with a name, the file that it changes, and two texts of one line:
+"""The mutations of the crates: wrong changes to the code that the contracts must refuse. The gate tries the mutations of crates/NAME/must-fail, in
+the toolchain's format. All other mutations are in tests/mutations/NAME.txt, each with a name, the file that it changes, and two texts of one line:
 
     bell_rings_twice: src/bell.rt
       - count += 1;

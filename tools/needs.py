@@ -1,6 +1,6 @@
-"""Checks that Python is recent enough, and that the gate has passed with the installed version of the Rattle toolchain. If one of these is
-not the case, reports this in one line before the tool does anything else. Any Python 3 can run this file, so that an old version can report
-that it is too old."""
+"""Checks that Python is recent enough, and that the gate has passed with the installed version of the Rattle toolchain. If Python is too old, or the gate
+has not passed with this toolchain, reports this in one line before the tool does anything else. Any Python 3 can run this file, so that an
+old Python can report that it is too old."""
 import importlib.machinery
 import importlib.util
 import os

@@ -3,7 +3,7 @@
 
     interpreting.py PORT [SEED | first]
 
-It is like player.py, but uses the interpreter of `tests/oracle` for the rules in START. On standard error, it prints the number of
+This player is like player.py, but uses the interpreter of `tests/oracle` for the rules in START. On standard error, it prints the number of
 sentences, and the number of sentences with variables. With `first` instead of a seed, it plays the first of its legal moves in alphabetical
 order."""
 

@@ -1,5 +1,5 @@
-"""Limits the connections of a server. If there are too many, one is closed: the oldest one that has not sent its whole request, or else one of the
-client that has the most connections."""
+"""Limits the connections of a server. If there are too many connections, the server closes the oldest connection whose whole request has not
+arrived. If there is no such connection, the server closes a connection of the client that has the most connections."""
 
 import contextlib
 import ipaddress

@@ -4,9 +4,9 @@
 ground_games.py NAME .. writes them in the current directory ground_games.py --check exits with status 1 if a file of examples/games differs
 from the expected output
 
-This script is an oracle: it shares no code with the program or with `python`. It evaluates rules top-down, by recursion; the program
-evaluates each rule once, in the order of ranks. It accepts only scripts of one match, without rows that the desk refuses, and without an
-abort."""
+This script is an oracle: it shares no code with the program or with `python`. The oracle evaluates rules top-down, by recursion; the
+program evaluates each rule once, in the order of ranks. The oracle accepts only scripts of one match, without rows that the desk refuses,
+and without an abort."""
 
 import argparse
 import json

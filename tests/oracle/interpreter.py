@@ -1,10 +1,11 @@
-"""A plain interpreter of GDL with variables, for `compare` and for a player of examples/players. It does not ground the rules: it answers a query
-top-down, rule by rule, according to the definition of truth in the standard. The interpreter is an oracle: it shares no code with the program or with
-`python`.
+"""A plain interpreter of GDL with variables, for `compare` and for a player of examples/players. It does not ground the rules, but answers
+a query top-down, rule by rule, according to the definition of truth in the standard. The interpreter is an oracle: it shares no code with
+the program or with `python`.
 
-A query is an atomic sentence that may have variables. The answers are the true sentences without variables that match the query. Rules are safe, so
-each answer of a rule has a value for each variable. If a query comes up again while it is being answered, its relation is recursive: from then on the
-whole relation is derived bottom-up from the facts. The same happens from the beginning if a query could come up again with larger terms."""
+A query is an atomic sentence that may have variables. The answers are the true sentences without variables that match the query. Rules are
+safe, so each answer of a rule has a value for each variable. If a query comes up again while it is being answered, the relation of the
+query is recursive: from then on the whole relation is derived bottom-up from the facts. The same happens from the beginning if a query
+could come up again with larger terms."""
 
 import re
 

@@ -1,6 +1,6 @@
 #!/usr/bin/env python3
 """Writes the expected output of `verify` for records of Countdown. This script is an oracle: it shares no code with the program or with
-`python`. It replays each record according to docs/RECORDS.md.
+`python`. The oracle replays each record according to docs/RECORDS.md.
 
 records.py                    writes NAME.word for each NAME.record of examples/records
 records.py --check            exits with status 1 if one of these files differs from the expected output

@@ -1,4 +1,4 @@
-"""A competition of many finished matches. One match is played. The others have the same moves, and other ids.
+"""A competition of many finished matches. One match is played. All other matches have the same moves, and other ids.
 
     PYTHONPATH=python python3 tests/python/made_up.py DIRECTORY COUNT"""
 

@@ -1,4 +1,4 @@
-"""Good and bad players for tests. They run in threads of the test, so they keep running when a run is killed."""
+"""Good and bad players for tests. The players run in threads of the test, so they keep running when a run is killed."""
 
 import random
 import socket

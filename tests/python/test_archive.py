@@ -1,4 +1,4 @@
-"""`check` accepts an archive in another directory. After each of many corruptions, it refuses the archive, although most of the corruptions
+"""`check` accepts an archive in another directory. After each of many corruptions, `check` refuses the archive, although most of the corruptions
 include matching checksums."""
 
 import errno

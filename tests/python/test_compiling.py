@@ -1,5 +1,5 @@
-"""Compares the interpreter of published descriptions with the one of `tests/oracle`, which shares no code with it. The descriptions are
-random. They have relations that depend on the state, on moves and on themselves, and nested negations and `or`s."""
+"""Compares the interpreter of published descriptions with the interpreter of `tests/oracle`. The two share no code. The descriptions are
+random, and have relations that depend on the state, on moves and on themselves, and nested negations and `or`s."""
 
 import random
 from unittest import mock

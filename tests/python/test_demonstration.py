@@ -1,6 +1,6 @@
 """A Swiss competition of eight players over three games, from its plan to its archive; a player and a round are added later. Meanwhile a
-browser shows it. `play` is killed twice, a match is played again, and the archive is published. Two of its players are bad, and one of
-these sends text that a page must not trust."""
+browser shows the competition. `play` is killed twice, a match is played again, and the archive is published. Two players are bad, and one
+of these two sends text that a page must not trust."""
 
 import json
 import re

@@ -1,4 +1,4 @@
-"""Records are checked against a description only if `plan` made the rules of the game from it."""
+"""Records are checked against a description only if `plan` made the rules of the game from this description."""
 
 import os
 import shutil

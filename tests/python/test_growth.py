@@ -1,4 +1,4 @@
-"""A competition that grows: planned matches stay as they are, and new ones follow them. If a change is refused, the message names the
+"""A competition that grows: planned matches stay as they are, and new matches come after them. If a change is refused, the message names the
 change."""
 
 import contextlib

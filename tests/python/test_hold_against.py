@@ -1,4 +1,4 @@
-"""`ggp-hold-against`, run in this process: its arguments, its limits of time and memory, and its result for each record."""
+"""`ggp-hold-against`, run in this process: the arguments, the limits of time and memory, and the result for each record."""
 
 import gzip
 import io

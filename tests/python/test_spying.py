@@ -1,4 +1,4 @@
-"""During an open turn, the live pages show a player nothing about the others' answers, not even that they have answered."""
+"""During an open turn, the live pages show a player nothing about the answers of other players, not even that other players have answered."""
 
 import contextlib
 import dataclasses

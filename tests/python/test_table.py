@@ -1,4 +1,4 @@
-"""The table in special cases. `test_recount.py` compares it with a simple recount of random results."""
+"""The table in special cases. `test_recount.py` compares the table with a simple recount of random results."""
 
 import csv
 import json

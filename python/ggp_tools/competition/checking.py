@@ -1,4 +1,4 @@
-"""Checks the matches that `play` has played, and writes the files of those that count."""
+"""Checks the matches that `play` has played, and writes the files of the matches that count."""
 
 import asyncio
 import collections

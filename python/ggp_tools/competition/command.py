@@ -1,4 +1,4 @@
-"""The command line of `ggp_competition`. Loading modules takes long, so a command loads only those that it needs."""
+"""The command line of `ggp_competition`. Loading modules takes long, so a command loads only the modules that it needs."""
 
 import argparse
 import os

@@ -1,8 +1,8 @@
 """The schedule of a competition that grows: after the first match you may add rounds, players, games and pairings, and order rematches. The
-planned matches stay as they are, and the new ones follow them.
+planned matches stay as they are, and the new matches come after them.
 
-The schedule follows from all versions of competition.toml, and from the rematches. Each version adds those matches that it requests but the
-previous version did not. If players are added, a game of more than two roles gets the matches in which a new player plays."""
+The schedule follows from all versions of competition.toml, and from the rematches. Each version adds the matches that this version requests
+and the previous version did not. If players are added, a game of more than two roles gets the matches in which a new player plays."""
 
 import itertools
 from collections import Counter

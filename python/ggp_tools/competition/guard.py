@@ -1,7 +1,7 @@
-"""Ends the programs that `play` runs when `play` has ended, even if it was killed. It needs only Python's standard library.
+"""Ends the programs that `play` runs when `play` has ended, even if `play` was killed. The guard needs only Python's standard library.
 
-Each program that `play` runs has a mark in its environment, and passes it on to what it starts. The input of this program ends when `play`
-has ended, and when the programs that `play` was starting at that moment have begun."""
+Each program that `play` runs has a mark in its environment, and passes this mark on to the programs that it starts. The input of this
+program ends when `play` has ended, and when the programs that `play` was starting at that moment have begun."""
 
 import contextlib
 import os

@@ -1,5 +1,5 @@
-"""Reads the history of a competition in its directory. `earlier` has the earlier versions of competition.toml. The name of each is the
-number of matches that were planned when the next version replaced it. `again.tsv` has the rematches, with the reasons."""
+"""Reads the history of a competition in its directory. `earlier` has the earlier versions of competition.toml. The name of a version is
+the number of matches that were planned when the next version replaced this version. `again.tsv` has the rematches, with the reasons."""
 
 import csv
 import io

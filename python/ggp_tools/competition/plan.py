@@ -1,4 +1,4 @@
-"""Plans a competition: writes its rules and its schedule, extends them later, and reads them again."""
+"""Plans a competition: writes the rules and the schedule, extends them later, and reads them again."""
 
 import functools
 import itertools

@@ -1,5 +1,5 @@
-"""Plans the rounds of a Swiss competition and of a knockout. The results of the earlier rounds determine the pairs of the next one, as
-"Swiss and knockout" in docs/COMPETITION.md describes it. When two players are paired, they play a match in each game for each order of the
+"""Plans the rounds of a Swiss competition and of a knockout. The results of the earlier rounds determine the pairs of the next round, as
+"Swiss and knockout" in docs/COMPETITION.md describes. When two players are paired, they play a match in each game for each order of the
 roles."""
 
 import itertools

@@ -1,5 +1,5 @@
 """Finds sentences that the referee accepts but that are suspicious. A sentence that may be correct is not reported. If a sentence has
-variables, and its instances are unknown, it counts as correct."""
+variables, and its ground sentences are unknown, the sentence counts as correct."""
 
 import difflib
 import itertools

@@ -1,1 +1,2 @@
-"""Checks records against the published description of a game. Except for the parser, it shares no code with the grounding or with the referee."""
+"""Checks records against the published description of a game. Except for the parser, this package shares no code with the grounding or
+with the referee."""

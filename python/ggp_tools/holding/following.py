@@ -1,4 +1,4 @@
-"""Replays a record according to the published description, and checks its roles, states, moves, errors, end and goals."""
+"""Replays a record according to the published description, and checks the roles, states, moves, errors, end and goals of the record."""
 
 import functools
 from collections.abc import Callable, Sequence

@@ -2,7 +2,7 @@
 
 Rules with the same head that differ in only one literal are repeatedly merged into one rule with an `or`. A sentence that is used once or only
 renames another is inlined, and a formula that many sentences share becomes a sentence, if this makes the text smaller. If there are still too many
-sentences, those with the same head are joined, and more are inlined, the cheapest in bytes first.
+sentences, sentences with the same head are joined, and further sentences are inlined, the cheapest in bytes first.
 
 The meaning of sentences never changes, so states, moves, goals and ends stay the same. The first sentence of a head keeps its place, so the
 order of roles and of legal moves stays the same too.

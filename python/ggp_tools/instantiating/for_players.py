@@ -1,4 +1,4 @@
-"""Writes the description with variables for players. Players' programs may read `base` and `input` in it."""
+"""Writes the description with variables for players. Players' programs may read `base` and `input` in this description."""
 
 from ggp_tools.gdl import Literal, each_of, ways_of
 from ggp_tools.instantiating.limits import atoms_of

@@ -1,7 +1,7 @@
-"""Formulas over ground atomic sentences. Each formula is stored once, with a number that is larger than those of its parts.
+"""Formulas over ground atomic sentences. Each formula is stored once, with a number that is larger than the numbers of its parts.
 
-In a turn each role makes exactly one of its moves. So exactly one of a role's `does` sentences is true, and the `or` of all of them is true. An `or`
-of some of them is equivalent to the negation of the `or` of the others."""
+In a turn each role makes exactly one of its moves. So exactly one of a role's `does` sentences is true, and the `or` of all these sentences
+is true. The `or` of some of these sentences is equivalent to the negation of the `or` of all other `does` sentences of the role."""
 
 from collections import Counter
 from collections.abc import Iterable

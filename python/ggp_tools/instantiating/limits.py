@@ -1,4 +1,4 @@
-"""Checks the limits of the referee, and finds ground rules that it refuses, and rules that derive infinitely many sentences."""
+"""Checks the limits of the referee, and finds ground rules that the referee refuses, and rules that derive infinitely many sentences."""
 
 import re
 from collections import Counter

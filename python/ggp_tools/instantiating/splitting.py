@@ -1,6 +1,6 @@
 """Splits rules that join independent parts before they are grounded.
 
-The number of instances of a rule may be as large as the product of the numbers of values of all its variables. A part of the body that
+The number of ground rules of a rule may be as large as the product of the numbers of values of all its variables. A part of the body that
 shares only a few variables with the rest and the head becomes an auxiliary relation over these variables (`split1`, `split2` ..). Then the
 product becomes a sum of smaller products. The meaning is the same, because the other variables of the part occur nowhere else. Relations
 that depend on themselves are not split."""

@@ -10,7 +10,7 @@ facts, matches of ggp-base, or text similar to PGN.
     ggp-records --rules RULES facts [--log LOG ..] [--descriptions DIR] [--refereed-by TEXT] FILE PILE ..
     ggp-records log LOG ..
 
-A PILE is a file with a record on each line, as written by `season` and `run`, or `-` for standard input. It may be compressed by gzip.
+A PILE is a file with a record on each line, as written by `season` and `run`, or `-` for standard input. A PILE may be compressed by gzip.
 Lines of call logs are skipped. Options may come anywhere. RULES is a directory with the ground rules of the games, each in a file NAME.kif.
 A record belongs to the game that has its roles and its first state. --large allows large rules.
 
@@ -20,7 +20,7 @@ A record belongs to the game that has its roles and its first state. --large all
 `sqlite` and `csv` write tables of all records. `lawful` is 1 or 0, and `copy_of` has the number of an earlier record with the same bytes.
 The views `counted_players` and `counted_moves` of the database have each lawful record once, and no other records.
 
-`ggp-base`, `pgn` and `facts` write only lawful records, and report the others. `ggp-base` writes a file for each match, in the format of
+`ggp-base`, `pgn` and `facts` write only lawful records, and report all other records. `ggp-base` writes a file for each match, in the format of
 ggp-base; URL/NAME/ is the address of the game NAME. `pgn` writes the headers and the moves of each match, with an empty line between two
 matches. `facts` writes a line of JSON for each record, with facts that are not in the record. LOG is a log file, or a directory of logs
 such as `logs` of a competition; the times of messages come from it. --descriptions names the directory with the descriptions that were

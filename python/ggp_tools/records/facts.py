@@ -1,6 +1,6 @@
 """Writes facts about each match that its record does not contain, as a line of JSON: the checksums of the record and of the rules, and the
 referee. If there is a log, the facts include the time of the match, the duration of each message, and why an answer was broken.
-examples/records/README.md describes the keys. They mean the same as in `matches.jsonl` of a competition."""
+examples/records/README.md describes the keys. The keys have the same meaning as in `matches.jsonl` of a competition."""
 
 import errno
 import json

@@ -1,5 +1,5 @@
-"""Players of Countdown inside a test. One thread serves all of them, each on a separate port. If a program that plays with them is killed,
-they continue to run, and remember their messages."""
+"""Players of Countdown inside a test. One thread serves all players, each on a separate port. If a program that plays with the players is
+killed, the players continue to run, and remember their messages."""
 import asyncio
 import random
 import re

@@ -1,4 +1,4 @@
-"""Plays seasons of Countdown between the players of a script, and checks their records."""
+"""Plays seasons of Countdown between the players of a script, and checks the records of the seasons."""
 import json
 import subprocess
 import tempfile
