@@ -265,7 +265,7 @@ class Lines(unittest.TestCase):
         long = "a" * 300
         record = {**RECORD, "moves": [[long, "noop"], ["noop", "(take 2)"]]}
         self.assertEqual(self.of(record, LOG.replace("((take 1) noop)", f"({long} noop)"))["messages"], MESSAGES)
-        self.assert_unknown("its log is that of another match", record, LOG.replace("((take 1) noop)", f"({long}a noop)"))
+        self.assert_unknown("its log belongs to another match", record, LOG.replace("((take 1) noop)", f"({long}a noop)"))
 
 
 class Files(WithPile):
