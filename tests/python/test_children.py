@@ -207,7 +207,8 @@ def test_programs_end_with_this_process_even_if_it_is_killed(tmp_path):
 
 def test_programs_that_a_killed_process_and_its_guard_have_left_are_ended_first(tmp_path):
     _, *processes = killed(str(tmp_path), "with the guard")
-    assert all(map(command_of, processes))
+    # A process that has just begun may have no command yet.
+    wait_until(lambda: all(map(command_of, processes)))
     assert marked(f"{tmp_path}/other") == []
     with apart(str(tmp_path)):
         assert not any(map(command_of, processes)) and marked(str(tmp_path)) == []
