@@ -255,7 +255,7 @@ class Folder:
 
     def make(self, *folders: pathlib.Path) -> None:
         """Creates missing directories, and waits until they are on the disk, like the files in them. Only the owner can read the directory of open
-        matches, and a new one of players: their logs may grow with each answer."""
+        matches, and a new directory of the players' logs, because a log that grows would show when a player has answered."""
         for folder in (self.path, *folders):
             if not folder.is_dir():
                 folder.mkdir(0o700 if folder == self.players else 0o777, parents=True, exist_ok=True)
