@@ -146,7 +146,7 @@ class Schedule(unittest.TestCase):
         competition = read_competition(toml([("p0", "h:1"), ("p1", "h:2")], [("g0", "f", "start = 3")]).encode())
         found = planned(competition, {"g0": 2})
         text = schedule_text(found) + b"cup-003\tg1\t3\t10\tp0 p1\ncup-004\tg0\t3\t10\tp0 p2\ncup-005\tg0\t3\tp0 p1\n\x1b\n"
-        self.assertEqual(matches_in(text.splitlines(), competition), found)
+        self.assertEqual(matches_in(text.splitlines(keepends=True), competition), found)
         self.assertEqual(list(map(id_in, text.splitlines())), [None, *(f"cup-00{at}" for at in range(1, 5)), None, None])
 
     def test_numbers_that_do_not_fit(self):
