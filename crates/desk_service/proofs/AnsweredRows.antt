@@ -33,7 +33,7 @@ one_more_answered next legal line last line' given text text' row rest piece mor
       answers = answers_more before.rows asked text text' last line' before.answers same answer;
     }
 
--- an answer after more text
+-- an answer that is appended to more text
 later_answer : (legal : Entry Call Reply → Type 0) (line line' : LockLineValue) (asked : Option Call) (before text text' : List ℕ)
     → AnswersCall legal line line' asked text text' → AnswersCall legal line line' asked (before ++ text) (before ++ text')
 later_answer legal line line' None before text text' (made, is) = (made, ap (λ l. before ++ l) is ∙ sym (append_assoc before text _))

@@ -1,4 +1,4 @@
--- A manager of matches may be sent to another thread if its games, their states and their moves may.
+-- If the games, their states and their moves may be sent to another thread, a manager of their matches may be sent too.
 use denote.RattleType.{RattleType}
 use denote.Param.Send.{IsSend, sendable}
 use Rattle.std.proofs.Crossing.{crosses}

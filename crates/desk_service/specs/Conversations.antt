@@ -6,19 +6,19 @@ use Rattle.desk_service.specs.declared.ending.Ending.{Ending}
 use Rattle.desk_service.specs.declared.ending.Ending.TheVariants.{Left, Broken, TooLong, Full}
 use Rattle.desk_service.specs.Rows.{last_row}
 
--- how a read can end a conversation
+-- the ways in which a read can end a conversation
 abbrev pub EndsReading : Ending → Type 0
 EndsReading TooLong = ⊥
 EndsReading Full = ⊥
 EndsReading ending = Unit {0}
 
--- the text was written; only a prefix of it if the connection broke
+-- the text was written, or, if the connection broke, only a prefix of it
 abbrev pub WritesUpTo : Ending → Option (List ℕ) → Option (List ℕ) → List ℕ → Type 0
 WritesUpTo Broken old new text = AppendsPart old new text
 WritesUpTo ending old new text = Appends old new text
 
--- What the client got: the text, or only a prefix of it if the connection broke. If the service ended the conversation, the last row
--- follows the text, unless the connection broke then.
+-- What the client got: the text if the client ended the conversation, a prefix of the text if the connection broke, and otherwise the text
+-- and the last row, or a prefix of both.
 abbrev pub Says : Ending → Option (List ℕ) → Option (List ℕ) → List ℕ → Type 0
 Says Left old new text = Appends old new text
 Says Broken old new text = AppendsPart old new text

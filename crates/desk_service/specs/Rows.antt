@@ -16,12 +16,12 @@ use Rattle.desk_service.specs.declared.ending.Ending.TheVariants.{Left, Broken, 
 abbrev pub max_row : ℕ
 max_row = 1048576
 
--- the beginning of a row, without its line feed
+-- the beginning of a row, before its line feed has come
 abbrev pub IsPartialRow : List ℕ → Type 0
 IsPartialRow row = (length row ≤ max_row) × HasNoLineFeed row
 
--- The answer to a row with this call, or without one: the reply to the call, which the line then has made, or else `badline`. The entry of
--- the call is legal.
+-- The answer to a row. If the row has a call, the line makes this call, the answer is the reply, and the entry of the call is legal. If the
+-- row has no call, the answer is `badline`.
 abbrev pub AnswersCall : (Entry Call Reply → Type 0) → LockLineValue → LockLineValue → Option Call → List ℕ → List ℕ → Type 0
 AnswersCall legal line line' asked out out' = MatchOption asked
     ((line'.made ≡ line.made) × (out' ≡ out ++ (codes "badline" ++ line_feed ∷ [])))
@@ -37,14 +37,14 @@ pub data AnswersRows (legal : Entry Call Reply → Type 0) (line : LockLineValue
   answers_more : (rows : List (List ℕ)) (row text text' : List ℕ) (mid line' : LockLineValue) → AnswersRows legal line rows text mid
       → line'.number ≡ mid.number → AnswersRow legal mid line' row text text' → AnswersRows legal line (rows ++ row ∷ []) text' line'
 
--- The bytes begin with some rows, each with its line feed. The line answered these rows in order, each once, with this text. The bytes
--- `left` follow the rows.
+-- The bytes begin with some rows, each with its line feed. The line answered these rows in order, each once, with this text. `left` follows
+-- the rows.
 pub record Answered (legal : Entry Call Reply → Type 0) (line last : LockLineValue) (given text left : List ℕ) : Type 0 where
   pub rows : List (List ℕ)
   pub begins : BeginsWithLines given rows left
   pub answers : AnswersRows legal line rows text last
 
--- how many calls may have been made whose replies are not in the text
+-- the largest number of calls that may have been made although their replies are not in the text
 abbrev pub unanswered : Ending → ℕ
 unanswered Broken = 1
 unanswered Memory = 1
@@ -59,7 +59,7 @@ is_stopped ending = true
 abbrev pub IsStopped : Ending → Type 0
 IsStopped ending = is_stopped ending ≡ true
 
--- the line after the conversation, given the line after the last answer
+-- the line after the conversation, given the line after its last answer
 abbrev pub IsLeftAs : Ending → LockLineValue → LockLineValue → Type 0
 IsLeftAs ending last line' = (line'.number ≡ last.number) × (last.made ≤ line'.made) × (line'.made ≤ last.made + unanswered ending)
 

@@ -7,10 +7,10 @@ use std::sync::{Condvar, Mutex, Wait};
 use std::time::{Clock, Duration};
 use std::{io, thread};
 
-/// How long the connections may last after the end of the service, in seconds.
+/// How many seconds open connections may last after the service has ended.
 const GRACE: u64 = 5;
 
-/// The pause, in milliseconds, after the system could not accept a connection.
+/// How many milliseconds to pause after the system could not accept a connection.
 const REST: u64 = 50;
 
 /// The open connections, and whether the service has ended.
@@ -24,14 +24,14 @@ struct Open {
 }
 
 impl Open {
-    /// Stores the connection of the line at this place, or `None` when it has ended.
+    /// Stores the connection of the line with this index, or `None` when the connection has ended.
     fn set(&mut self, place: usize, stream: Option<TcpStream>) {
         if let Some(entry) = self.streams.get_mut(place) {
             *entry = stream;
         }
     }
 
-    /// Ends the reading or all use of the open connections.
+    /// Shuts down one or both sides of all open connections.
     fn shut(&self, how: Shutdown) {
         for stream in &self.streams {
             if let Some(stream) = stream {
@@ -52,7 +52,7 @@ pub struct Connections<'a> {
 }
 
 impl<'a> Connections<'a> {
-    /// Has no connection yet. At most `lines` are open at once.
+    /// Starts without connections. At most `lines` connections are open at once.
     pub fn new(alloc: Global, listener: &'a Listener, lines: u32) -> io::Result<Connections<'a>> {
         let handle = listener.handle()?;
         let mut streams = Vec::new(alloc);
@@ -79,7 +79,7 @@ impl<'a> Connections<'a> {
         Ok((stream, second))
     }
 
-    /// Waits for a connection for the line at this place. Returns `None` after the end of the service.
+    /// Waits for a connection for the line with this index. Returns `None` after the end of the service.
     pub(crate) fn next<R: Clock + Wait>(&self, rt: &R, place: usize) -> Option<TcpStream> {
         for _ in rt.forever() {
             let accepted = self.accept();
@@ -93,13 +93,13 @@ impl<'a> Connections<'a> {
                 return Some(stream);
             }
             drop(open);
-            // The system lacks descriptors or memory, or the client is gone.
+            // The system lacks descriptors or memory, or the client has already gone away.
             thread::sleep(rt, Duration::from_millis(REST));
         }
         unreachable!()
     }
 
-    /// Ends the connection of the line at this place.
+    /// Ends the connection of the line with this index.
     pub(crate) fn leave<R: Wait>(&self, rt: &R, place: usize) {
         let mut open = self.open.lock(rt);
         open.set(place, None);
@@ -107,8 +107,8 @@ impl<'a> Connections<'a> {
         self.left.notify_all();
     }
 
-    /// Ends the service: accepts no more connections, and reads no more from the open ones. Waits up to `GRACE` seconds until all have
-    /// ended, and then cuts the others. Returns whether it cut a connection.
+    /// Ends the service: accepts no more connections, and reads no more from the open ones. Waits up to `GRACE` seconds
+    /// until all have ended, and then cuts the remaining ones. Returns whether it cut a connection.
     pub(crate) fn end<R: Clock + Wait>(&self, rt: &R) -> bool {
         let mut open = self.open.lock(rt);
         open.has_ended = true;

@@ -34,7 +34,8 @@ fn read_chunk<I: Read>(reader: &mut Counted<I>, chunk: &mut [u8]) -> Result<usiz
     }
 }
 
-/// Reads once, and writes the answers to the rows that are complete then. `row` is the beginning of a row that is not complete yet.
+/// Reads once, and writes the answers to the rows that are then complete. `row` is the beginning of the next row, which
+/// is not complete.
 fn answer_read<O, L: Ledger, R: Wait, I: Read, W: Write>(
     serving: &Serving<'_, O, L, R>,
     line: &mut LockLine<L>,
@@ -67,8 +68,8 @@ where
     }
 }
 
-/// Answers the rows of a client in order, until the conversation ends. The answers to the rows of a read are written before the next
-/// read.
+/// Answers the rows of a client in order, until the conversation ends. After each read, writes the answers before it
+/// reads again.
 fn answer_all<O, L: Ledger, R: Wait, I: Read, W: Write>(
     serving: &Serving<'_, O, L, R>,
     line: &mut LockLine<L>,
@@ -94,8 +95,8 @@ where
     unreachable!()
 }
 
-/// Answers the rows of a client in order, until the conversation ends, and then writes the last row, if there is one. A row is complete
-/// once its line feed has come. An incomplete row makes no call.
+/// Answers the rows of a client in order, until the conversation ends, and then writes the last row, if there is one. A
+/// row is complete once its line feed has come; the service makes no call for an incomplete row.
 pub fn converse<O, L: Ledger, R: Wait, I: Read, W: Write>(
     serving: &Serving<'_, O, L, R>,
     line: &mut LockLine<L>,

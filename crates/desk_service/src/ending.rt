@@ -21,7 +21,7 @@ pub enum Ending {
 }
 
 impl Ending {
-    /// Whether the service has ended the conversation.
+    /// Whether the service, not the client, ended the conversation.
     pub(crate) fn is_stopped(self) -> bool
         ensures { result ≡ is_stopped self }
     {

@@ -1,4 +1,5 @@
-//! A desk of matches as a service: clients send calls over connections, and each connection has one line of the desk as long as it lasts.
+//! A desk of matches as a service. Clients send calls over connections; while a connection lasts, it has one line of
+//! the desk.
 //!
 //! `Listener` accepts the connections, `converse` answers one client, and `serve_desk` runs the whole service and closes the desk. Free
 //! functions take the runtime first, and then the allocator.

@@ -16,7 +16,7 @@ pub trait Listens {
 impl Listens for HostRuntime {
     fn listen(&self, address: &str) -> io::Result<Listener> {
         match address.strip_prefix("unix:") {
-            // The system would choose a name that no client knows.
+            // For an empty path, the system would choose a name that no client knows.
             Some("") => Err(io::Error::from(ErrorKind::InvalidInput)),
             Some(path) => Ok(Listener::Unix(UnixListener::bind(self, path)?)),
             None => Ok(Listener::Tcp(TcpListener::bind(self, address)?)),
@@ -42,7 +42,7 @@ impl Listener {
         format!(in alloc; "listening on {address}\n")
     }
 
-    /// Waits for the next connection. After the socket was shut down, this fails at once.
+    /// Waits for the next connection. Once the socket is shut down, this fails at once.
     pub(crate) fn accept(&self) -> io::Result<TcpStream> {
         match self {
             Listener::Tcp(listener) => {
@@ -58,8 +58,8 @@ impl Listener {
         }
     }
 
-    /// A second handle of the socket, with which it can be shut down. The standard library can only shut down streams, but for the
-    /// system a listening socket is the same.
+    /// A second handle of the socket, for shutting the socket down. The standard library can shut down only streams,
+    /// but the system treats a listening socket in the same way.
     pub(crate) fn handle(&self) -> io::Result<TcpStream> {
         let socket = match self {
             Listener::Tcp(listener) => OwnedFd::from(listener.try_clone()?),

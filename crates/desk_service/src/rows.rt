@@ -20,7 +20,7 @@ use whole_streams::laws::lines_are_taken;
 /// The largest number of bytes of a row, as in a script.
 const MAX_ROW: usize = 1_048_576;
 
-/// The desk of a service, and the means to make calls on it.
+/// The desk of a service, with everything that is needed to make calls on it.
 #[derive(Drop)]
 pub struct Serving<'a, O: Object, L: Ledger, R> {
     pub rt: &'a R,
@@ -28,7 +28,7 @@ pub struct Serving<'a, O: Object, L: Ledger, R> {
     pub desk: &'a LockDesk<O, L>,
 }
 
-/// Appends a reply and a line feed, by way of `text`. After an error nothing is appended.
+/// Appends a reply and a line feed, with `text` as a buffer. On an error, appends nothing.
 fn push_answer(out: &mut Vec<u8>, text: &mut Vec<u8>, reply: &Reply) -> Result<(), CallFault>
     ensures answer { OnOk result (out.new.items ≡ out.old.items ++ (reply_text reply.now ++ line_feed ∷ [])) }
     ensures same { OnErr result (out.new.items ≡ out.old.items) }
@@ -41,7 +41,8 @@ fn push_answer(out: &mut Vec<u8>, text: &mut Vec<u8>, reply: &Reply) -> Result<(
     Ok(())
 }
 
-/// Appends the answer to a row, by way of `text`. After an error nothing is appended. If memory ran out, the call may have been made.
+/// Appends the answer to a row, with `text` as a buffer. On an error, appends nothing. If memory ran out, the call may
+/// have been made.
 fn answer_row<O: Object<Call = Call, Reply = Reply>, L: Ledger, R: Wait>(
     serving: &Serving<'_, O, L, R>,
     line: &mut LockLine<L>,
@@ -72,7 +73,7 @@ fn first_row(text: &[u8]) -> Option<(&[u8], &[u8])>
     Some((&text[..end], &text[end + 1..]))
 }
 
-/// Adds bytes to the beginning of a row.
+/// Appends bytes to the beginning of a row.
 fn grow_row(row: &mut Vec<u8>, piece: &[u8]) -> Result<(), Ending>
     requires { length row.old.items ≤ max_row }
     ensures grown { OnOk result (row.new.items ≡ row.old.items ++ piece.now) }
@@ -86,8 +87,8 @@ fn grow_row(row: &mut Vec<u8>, piece: &[u8]) -> Result<(), Ending>
     Ok(())
 }
 
-/// Appends the answers to the rows that are complete with these bytes. `row` is the beginning of a row that is not complete yet. After an
-/// error, the answers to the rows before it are appended.
+/// Appends the answers to the rows that these bytes complete. `row` is the beginning of the next row, which is not
+/// complete. On an error, the answers to the earlier rows are appended.
 pub(crate) fn answer_chunk<O: Object<Call = Call, Reply = Reply>, L: Ledger, R: Wait>(
     serving: &Serving<'_, O, L, R>,
     line: &mut LockLine<L>,

@@ -23,7 +23,7 @@ use std::thread;
 use std::thread::{Threads, join};
 use std::time::{Clock, Duration};
 
-/// After the service has refused a client, its connection is closed when it has been silent for this many seconds.
+/// After refusing a client, the service closes the connection once the client has been silent for this many seconds.
 const PATIENCE: u64 = 1;
 
 /// The report about connections that were cut.
@@ -38,12 +38,12 @@ pub struct ServiceSurroundings<'a, R> {
     pub connections: &'a Connections<'a>,
 }
 
-/// Proves that threads may share the value, from the bound of `T`. The contracts of closures need this fact.
+/// Proves from the bound of `T` that threads may share the value. The contracts of closures need this fact.
 fn is_shared<T: Sync>(_value: &T)
     ensures { IsSync T.row }
 {}
 
-/// Reads to the end of the input, and drops what it reads.
+/// Reads the input to its end, and drops what it reads.
 fn drop_rest<R: Wait, I: Read>(rt: &R, reader: &mut Counted<I>) {
     let mut chunk = [0u8; 1_024];
     for _ in rt.forever() {
@@ -74,7 +74,7 @@ where
         let ending = converse(serving, line, &mut reader, &mut writer);
         if ending.is_stopped() {
             let _ = around.rt.eprintln(ending.words());
-            // Closing the connection while the client sends could make the system drop the last row.
+            // If the service closed the connection while the client sends, the system could drop the last row.
             let _ = stream.set_read_timeout(Some(Duration::from_secs(PATIENCE)));
             let _ = stream.shutdown(Shutdown::Write);
             drop_rest(around.rt, &mut reader);
@@ -110,7 +110,7 @@ where
     lines
 }
 
-/// Reads to the end of the input, and ends the service.
+/// Reads the input to its end, and then ends the service.
 fn end_at_input<R: Clock + Eprint + Wait, I: Read>(
     around: &ServiceSurroundings<'_, R>,
     reader: &mut Counted<I>,
@@ -182,7 +182,8 @@ where
     }
 }
 
-/// Serves a new desk with these games and this many lines over the connections, until the input ends, and closes the desk.
+/// Opens a desk with these games and this many lines, serves it over the connections until the input ends, and closes
+/// it.
 pub fn serve_desk<G, R, I>(
     around: &ServiceSurroundings<'_, R>,
     games: Vec<G>,

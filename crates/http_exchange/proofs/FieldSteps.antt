@@ -1,4 +1,4 @@
--- The length in the fields, field by field.
+-- The body's length, computed field by field.
 use Rattle.std.proofs.Common.{◌≡◌, ℕ, ◌+◌, ◌<◌, Bool, true, false, cond, List, [], ◌∷◌, ◌++◌, map, drop, get_or, length, Option, Some, None, refl, sym, ap, ◌∙◌, arith}
 use Rattle.std.specs.Prelude.{◌==◌, if◌then◌else◌}
 use Rattle.std.specs.List.{list_all, list_any}
@@ -22,7 +22,7 @@ one before field =
     if has_name transfer_encoding field.0 then wrong
     else (if has_name content_length field.0 then agree before field.1 else before)
 
--- the result after these fields too
+-- the result after these further fields
 abbrev pub after : BodyLength → List Header → BodyLength
 after before [] = before
 after before (field ∷ fields) = after (one before field) fields
@@ -70,7 +70,7 @@ after_all (field ∷ fields) =
     step false e true f false g rest = rw (e, f, g) (after_wrong fields ∙ either (list_any has_coding fields) wrong)
     step false e false f d g rest = rw (e, f) rest
 
--- the error after these fields too
+-- the error after these further fields
 abbrev pub fault_after : BodyLength → List Header → FrameFault
 fault_after before [] = NoLength
 fault_after before (field ∷ fields) = cond (is_wrong (one before field)) (field_fault field) (fault_after (one before field) fields)

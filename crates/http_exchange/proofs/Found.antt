@@ -78,7 +78,7 @@ not_more s e h = cc
 same_body : (a b s e : ℕ) → looks.Body s e ≡ looks.Body a b → (s ≡ a) × (e ≡ b)
 same_body a b s e h = (cc, cc)
 
--- the place of a body that is found, according to the fields
+-- where a body that is found begins and ends, according to the fields
 StandsAt : HttpKind → BodyLength → ℕ → ℕ → Bool → ℕ → ℕ → Type 0
 StandsAt kind wrong size have ended s e = ⊥
 StandsAt kind (said n) size have ended s e = (n ≤ max_body kind) × (size + n ≤ have) × (s ≡ size) × (e ≡ size + n)

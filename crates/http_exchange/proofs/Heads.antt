@@ -106,7 +106,7 @@ refused_first NoLength head = inr refl
 refused_first TooLong head = inr refl
 refused_first CutShort head = inr refl
 
--- ---- Where a body starts
+-- ---- Where a body begins
 
 starts_by : (b : Bool) (size n m : ℕ) → size ≤ n → StartsWithin n (cond b (Whole (record { start = size; length = Some m })) (Refused TooLong))
 starts_by true size n m h = h

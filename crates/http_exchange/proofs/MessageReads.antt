@@ -23,7 +23,7 @@ use Rattle.http_exchange.specs.declared.wire_fault.WireFault.{WireFault}
 use Rattle.http_exchange.specs.declared.wire_fault.WireFault.TheVariants.{WriteFault, ReadFault, BadHead, BadStatus, BadLength, TooLong, CutShort, TooManyReads, Memory}
 use Rattle.http_exchange.proofs.Heads.{known_on}
 
--- the bytes so far, and then those of one more read
+-- the earlier bytes, followed by the bytes of one more read
 pub reached : (a b c : Option (List ℕ)) (held given now : List ℕ) (ended : Bool) → Consumes a b held → Gives b c given ended
     → now ≡ held ++ given → Gives a c now ended
 reached a b c held given now ended before gives grew = record {
@@ -102,12 +102,12 @@ one_more_call calls first before after made is below =
     let so_far : calls + first ≤ before = made (omega arith) in
     omega arith
 
--- what was known about the earlier bytes is known about the bytes now
+-- what was known about the earlier bytes is still known about all bytes so far
 pub known_after : (kind : HttpKind) (held given now seen : List ℕ) (head : Head) → now ≡ held ++ given → seen ≡ now → IsKnown kind held head → IsKnown kind seen head
 known_after kind held given now seen head grew same known =
     subst (λ (l : List ℕ). IsKnown kind l head) (sym (same ∙ grew)) (known_on kind held given head known)
 
--- one more read, after which more bytes are needed
+-- one more read, after which still more bytes are needed
 pub read_keeps : {S : Type 0} (kind : HttpKind) (a b c : Option (List ℕ)) (held now seen : List ℕ) (head : Head) (have : ℕ) (ended : Bool) (first before after : Counting S) (call : ℕ)
     → Consumes a b held → first.faults ≤ before.faults → CallsMade call first.calls before.calls
     → Grows b c held now ended before after → seen ≡ now → have ≡ length now → HeadIs kind seen head → looks.More ≡ look_past head have ended

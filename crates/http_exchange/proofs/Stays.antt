@@ -61,7 +61,7 @@ same_front kind bytes more head long is =
     let same : front (bytes ++ more) ≡ front bytes = take-append-le max_head bytes more long in
     rw same is
 
--- both heads give the same result for any number of bytes; for bad heads the parts may differ
+-- both heads give the same result for any number of bytes; two bad heads may differ in the bad part
 abbrev AreAlike : Head → Head → Type 0
 AreAlike other head = (have : ℕ) (ended : Bool) → look_past other have ended ≡ look_past head have ended
 

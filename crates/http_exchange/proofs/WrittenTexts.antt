@@ -1,4 +1,4 @@
--- The texts that are written carry their bodies.
+-- Requests and replies, as they are written, carry their bodies.
 use Rattle.std.proofs.Common.{◌≡◌, ℕ, zero, suc, ◌+◌, ◌^◌, ◌<◌, ◌≤◌, Bool, true, false, List, [], ◌∷◌, ◌++◌, length, reverse, Some, refl, sym, ap, subst, ◌∙◌, arith, length-append, append_assoc, append-nil, get_or, lit<}
 use Rattle.std.specs.Prelude.{codes, nat_lt, ◌==◌, All, IsUtf8}
 use Rattle.std.specs.Char.{is_ascii_digit}

@@ -45,7 +45,7 @@ abbrev pub body_length : List Header → BodyLength
 body_length fields =
     if list_any (λ (field : Header). has_name transfer_encoding field.0) fields then wrong else agreed (lengths fields)
 
--- why a length does not agree with those before it
+-- why a length does not agree with the lengths before it
 abbrev pub value_fault : List ℕ → FrameFault
 value_fault value = if are_digits value then TwoLengths else NoNumber
 
@@ -57,12 +57,12 @@ is_wrong unsaid = false
 is_wrong (said n) = false
 is_wrong wrong = true
 
--- why there is no usable length: the error of the first field of the second list after which there is none
+-- why there is no usable length: the error of the first field in the second list that leaves the message without one
 abbrev pub fault_behind : List Header → List Header → FrameFault
 fault_behind before [] = NoLength
 fault_behind before (field ∷ fields) =
     if is_wrong (body_length (before ++ (field ∷ []))) then field_fault field else fault_behind (before ++ (field ∷ [])) fields
 
--- Why the fields have no usable length: the error of the first field after which there is none.
+-- Why the fields have no usable length: the error of the first field that leaves the message without one.
 abbrev pub length_fault : List Header → FrameFault
 length_fault fields = fault_behind [] fields

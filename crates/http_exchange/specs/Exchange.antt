@@ -16,8 +16,8 @@ use Rattle.http_exchange.specs.declared.wire_fault.FrameFault.{FrameFault}
 use Rattle.http_exchange.specs.declared.wire_fault.WireFault.{WireFault}
 use Rattle.http_exchange.specs.declared.wire_fault.WireFault.TheVariants.{Memory}
 
--- The stream gave these bytes between two moments; `old` and `new` are the bytes that were left to read then. A stream that has ended
--- has none left.
+-- The stream gave these bytes between two moments. `old` and `new` are the bytes that were left to read at those moments. A stream that has
+-- ended has no bytes left.
 pub record Gives (old new : Option (List ℕ)) (given : List ℕ) (ended : Bool) : Type 0 where
   pub consumed : Consumes old new given
   pub at_end : ended ≡ true → IsAtEnd new
@@ -26,7 +26,7 @@ pub record Gives (old new : Option (List ℕ)) (given : List ℕ) (ended : Bool)
 abbrev pub WritesText : {S : Type 0} → (S → Option (List ℕ)) → Counting S → Counting S → List ℕ → Type 0
 WritesText contents old new text = (old.faults ≤ new.faults) × Appends (contents old.stream) (contents new.stream) text
 
--- a part of this text was written before the error
+-- before the error, only a part of this text was written
 abbrev pub BreaksOff : {S : Type 0} → (S → Option (List ℕ)) → Counting S → Counting S → List ℕ → WireFault → Type 0
 BreaksOff contents old new text fault =
     (taken : ℕ) × (taken < length text) × Appends (contents old.stream) (contents new.stream) (take taken text)
@@ -44,7 +44,7 @@ TakesNone kind remaining old new fault =
     (given : List ℕ) × (ended : Bool) × Gives (remaining old.stream) (remaining new.stream) given ended
     × ReadStops kind fault given ended old new
 
--- The bytes from the stream are refused with this error, and `received` follows from what they say about the head. So a status in
+-- The bytes from the stream are refused with this error. `received` follows from the meaning of the bytes as a head, so a status in
 -- `received` is exactly the status of the head.
 abbrev pub TellsRefusal : {S : Type 0} → HttpKind → (S → Option (List ℕ)) → Counting S → Counting S → WireFault → Received → Type 0
 TellsRefusal kind remaining old new fault received =

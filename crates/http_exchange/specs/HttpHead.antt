@@ -33,7 +33,7 @@ good_status = 200
 abbrev pub post : List ℕ
 post = codes "POST"
 
--- The parts of a head: its size in bytes, the error if its first line is refused, and its fields.
+-- The parts of a head: its size in bytes, the error of its first line if that is refused, and its fields.
 pub record Parts : Type 0 where
   pub size : ℕ
   pub refusal : Option FrameFault
@@ -62,34 +62,34 @@ Reads Request bytes parts rest = (head : RequestHead) × ReadsRequest bytes head
 abbrev pub HasNoHead : HttpKind → List ℕ → Type 0
 HasNoHead kind bytes = (parts : Parts) (rest : List ℕ) → ¬ (Reads kind bytes parts rest)
 
--- Some further bytes complete a head. Or the bytes end inside a request's target, which is not tested before it is complete.
+-- Some further bytes complete a head, or the bytes end inside a request's target. The target is checked only once it is complete.
 abbrev pub MayBecomeHead : HttpKind → List ℕ → Type 0
 MayBecomeHead Reply bytes = MayBecomeResponse bytes
 MayBecomeHead Request bytes = MayBecomeRequest bytes
 
--- whatever bytes follow, the bytes do not begin with a head that has few enough fields
+-- no matter which bytes follow, the bytes do not begin with a head that has few enough fields
 abbrev pub IsHopeless : HttpKind → List ℕ → Type 0
 IsHopeless kind bytes =
     (more : List ℕ) (parts : Parts) (rest : List ℕ) → Reads kind (bytes ++ more) parts rest
     → max_fields < length parts.fields
 
--- whatever bytes follow, the bytes do not begin with a head
+-- no matter which bytes follow, the bytes do not begin with a head
 abbrev pub NeverHasHead : HttpKind → List ℕ → Type 0
 NeverHasHead kind bytes = (more : List ℕ) → HasNoHead kind (bytes ++ more)
 
--- some first part of the bytes, followed by an empty line, is a head with too many fields
+-- a prefix of the bytes, followed by an empty line, is a head with too many fields
 abbrev pub HasManyFields : HttpKind → List ℕ → Type 0
 HasManyFields kind bytes =
     (begun : List ℕ) × (others : List ℕ) × (bytes ≡ begun ++ others)
     × (parts : Parts) × Reads kind (begun ++ (line_feed ∷ [])) parts [] × (max_fields < length parts.fields)
 
--- This part of a hopeless head is not valid HTTP: the number of fields, if there are too many; or another part, if no further bytes
+-- This part of a hopeless head is not valid HTTP. It is the number of fields if there are too many. It is another part if no further bytes
 -- complete a head.
 abbrev pub IsBadIn : HttpKind → List ℕ → HeadPart → Type 0
 IsBadIn kind bytes part = (part ≡ FieldCount → HasManyFields kind bytes) × (part ≢ FieldCount → NeverHasHead kind bytes)
 
--- The body after a head of this size, according to the fields' length or error. Without a length, a reply's body continues to the end
--- of the stream.
+-- What follows a head of this size, given the length or the error of its fields. Without a length, a reply's body continues to the end of
+-- the stream.
 abbrev pub framed_by : HttpKind → ℕ → FrameFault → BodyLength → Head
 framed_by kind size fault wrong = Refused fault
 framed_by kind size fault (said n) =
@@ -97,13 +97,13 @@ framed_by kind size fault (said n) =
 framed_by Reply size fault unsaid = Whole (record { start = size; length = None })
 framed_by Request size fault unsaid = Refused NoLength
 
--- the head, unless its first line is refused; a request that is refused because of its method is bad in the part `Method`
+-- the head, unless its first line is refused; if a request is refused because of its method, the bad part is `Method`
 abbrev pub unless_refused : Option FrameFault → Head → Head
 unless_refused None head = head
 unless_refused (Some BadHead) head = Bad Method
 unless_refused (Some refusal) head = Refused refusal
 
--- what a complete head says: its first line is tested first, then its fields
+-- the meaning of a complete head: its first line is checked before its fields
 abbrev pub framed : HttpKind → Parts → Head
 framed kind parts = unless_refused parts.refusal (framed_by kind parts.size (length_fault parts.fields) (body_length parts.fields))
 

@@ -1,4 +1,4 @@
--- The result of inspecting the bytes of a message so far, after each read.
+-- The result for the bytes of a message so far, after each read.
 use Rattle.std.specs.Prelude.{◌≡◌, ℕ, ◌+◌, Bool, List, length, Option, Some, None, nat_le, nat_lt, if◌then◌else◌}
 use Rattle.http_exchange.specs.HttpHead.{HeadIs, max_head, max_body}
 use Rattle.http_exchange.specs.declared.head.HttpKind.{HttpKind}
@@ -9,7 +9,7 @@ use Rattle.http_exchange.specs.declared.look.Look.{Look}
 use Rattle.http_exchange.specs.declared.look.Look.TheVariants as looks
 use Rattle.http_exchange.specs.declared.wire_fault.FrameFault.TheVariants.{BadHead, TooLong, CutShort}
 
--- a body of this length from start, or one that continues to the end of the stream
+-- the result for a body that has this length, or continues to the end of the stream, and begins at `start`
 abbrev pub look_from : ℕ → Option ℕ → ℕ → Bool → Look
 look_from start (Some n) have ended =
     if nat_le (start + n) have then looks.Body start (start + n)

@@ -29,7 +29,7 @@ IsRefusal TooManyReads = ⊥
 IsRefusal Memory = ⊥
 IsRefusal fault = ⊤
 
--- a failure was counted, unless the count had reached its highest value
+-- a failure was counted, unless the count had already reached its maximum
 abbrev pub HasFailed : ℕ → ℕ → Type 0
 HasFailed old new = new < last_count → old < new
 
@@ -37,8 +37,8 @@ HasFailed old new = new < last_count → old < new
 abbrev pub WantsMore : HttpKind → List ℕ → Type 0
 WantsMore kind given = (given ≡ []) ⊎ Looks kind given false More
 
--- The meaning of a read error, from the bytes, whether the stream ended, and the stream's counts before and after. All errors except
--- the first three mean that the bytes are refused.
+-- The meaning of a read error, given the bytes, whether the stream ended, and the stream's counts before and after. Every error except the
+-- first three means that the bytes are refused.
 abbrev pub ReadStops : {S : Type 0} → HttpKind → WireFault → List ℕ → Bool → Counting S → Counting S → Type 0
 ReadStops kind (ReadFault cause) given ended old new =
     (cause ≢ Interrupted) × (ended ≡ false) × WantsMore kind given × HasFailed old.faults new.faults
@@ -48,7 +48,7 @@ ReadStops kind Memory given ended old new = ⊤
 ReadStops kind fault given ended old new =
     (refusal : FrameFault) × (fault ≡ fault_of refusal) × Looks kind given ended (Refused refusal)
 
--- the meaning of a write error, from the stream's counts before and after
+-- the meaning of a write error, given the stream's counts before and after
 abbrev pub WriteStops : {S : Type 0} → WireFault → Counting S → Counting S → Type 0
 WriteStops WriteFault old new = HasFailed old.faults new.faults
 WriteStops TooManyReads old new = CallsMade max_stream_calls old.calls new.calls

@@ -1,4 +1,4 @@
--- Laws of inspecting messages, and of the bodies that they carry.
+-- Laws of the results for the bytes so far, and of the bodies that bytes carry.
 use Rattle.std.specs.Prelude.{◌≡◌, ◌≢◌, ◌≤◌, ◌⊎◌, ℕ, Bool, false, List, ◌++◌, length, slice_range}
 use Rattle.std.specs.List.{AllPass}
 use Rattle.httparse.specs.Grammar.{is_value_byte}
@@ -15,8 +15,8 @@ use Rattle.http_exchange.specs.declared.look.Look.TheVariants.{More, Body, Refus
 use Rattle.http_exchange.specs.declared.wire_fault.WireFault.{WireFault}
 use Rattle.http_exchange.specs.declared.wire_fault.WireFault.TheVariants.{Memory}
 
--- The bytes begin a head, or end inside a request's target, but no further bytes complete a head with few enough fields: there are too
--- many fields already, or the target is not text.
+-- The bytes begin a head, or end inside a request's target. But no further bytes complete a head with few enough fields, because there are
+-- too many fields already or the target is not text.
 pub record IsUndecided (kind : HttpKind) (bytes : List ℕ) : Type 0 where
   pub unfinished : MayBecomeHead kind (front bytes)
   pub hopeless : IsHopeless kind (front bytes)
@@ -55,7 +55,7 @@ CarriedHasNoFault S =
     (kind : HttpKind) (given : List ℕ) (ended : Bool) (body : List ℕ) (fault : WireFault) (old new : Counting S)
     → Carried kind given ended body → ReadStops kind fault given ended old new → fault ≡ Memory
 
--- A reply carries its body, whatever follows the reply, if the body is within the limit.
+-- A reply carries its body if the body is within the limit, no matter which bytes follow the reply.
 abbrev pub ReplyIsCarried : Type 0
 ReplyIsCarried =
     (body more : List ℕ) (ended : Bool) → length body ≤ max_body Reply → Carried Reply (reply_text body ++ more) ended body
@@ -64,8 +64,8 @@ ReplyIsCarried =
 abbrev pub long_name : ℕ
 long_name = 16000
 
--- A request carries its body, whatever follows the request, if the body and the player's name are within their limits and the name has
--- no control byte except tabs.
+-- A request carries its body, no matter which bytes follow the request, if the body and the player's name are within their limits and the
+-- name has no control byte except tabs.
 abbrev pub RequestIsCarried : Type 0
 RequestIsCarried =
     (player body more : List ℕ) (ended : Bool) → AllPass is_value_byte player → length player ≤ long_name → length body ≤ max_body Request

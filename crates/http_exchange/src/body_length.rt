@@ -24,7 +24,7 @@ fn has_name(name: &[u8], small: &[u8]) -> bool
     name.eq_ignore_ascii_case(small)
 }
 
-/// Whether a value is digits and, if there is an earlier value, writes the same number.
+/// Whether a value consists of digits and, if there is an earlier value, writes the same number.
 fn agrees(before: Option<&[u8]>, value: &[u8]) -> bool
     requires { IfSome (option_copied before) (λ digits. IsTrue (are_digits digits)) }
     ensures { result ≡ agrees (option_copied before.entry) value.now }
@@ -35,7 +35,7 @@ fn agrees(before: Option<&[u8]>, value: &[u8]) -> bool
     }
 }
 
-/// The error of a value that does not agree with the one before it.
+/// The error of a value that does not agree with the earlier values.
 fn value_fault(value: &[u8]) -> FrameFault
     ensures { result ≡ value_fault value.now }
 {
@@ -46,8 +46,8 @@ fn value_fault(value: &[u8]) -> FrameFault
     }
 }
 
-/// The digits of the length on which the fields agree, or `None` if no field has a length. The error says why the fields
-/// have no usable length.
+/// The digits of the length on which the fields agree, or `None` if no field has a length. The error says why the
+/// length is not usable.
 pub(crate) fn said_length<'b>(
     buf: &'b [u8],
     headers: &[HeaderSpan],

@@ -1,4 +1,4 @@
-//! Exchanges with a player, from the referee's side and from the player's.
+//! Exchanges with a player, from both sides.
 ghost use Rattle.std.specs.Prelude.{◌≡◌, ◌⊎◌, IfOk, OnOk, IfErr};
 ghost use Rattle.http_exchange.specs.Exchange.{BreaksOff, BringsNone, BringsRefusal, BringsReply, TakesBody, TakesNone, WritesText};
 ghost use Rattle.http_exchange.specs.HttpText.{reply_text, request_text};
@@ -17,9 +17,9 @@ use std::io::{Read, Write};
 
 /// Sends a player a request with this body, and returns the body of the reply.
 ///
-/// The player's name goes into the head unchanged, so it must not contain a line end. Bytes after the body of the
-/// reply are ignored, but may have been read. The stream is not flushed. A long part that the body shares with other
-/// bodies is written without being copied. If there is no body, `received` says how far the exchange got.
+/// The player's name goes into the head unchanged, so it must not contain a line end. This ignores bytes after the body
+/// of the reply, but may read them. It does not flush the stream, and does not copy a long part that the body shares
+/// with other bodies. If there is no body, `received` says how far the exchange got.
 pub fn exchange_shared<S: Read + Write>(
     alloc: Global,
     stream: &mut Counted<S>,
@@ -57,7 +57,7 @@ pub fn exchange<S: Read + Write>(
     )
 }
 
-/// Reads a request and returns its body. Bytes after the body are ignored, but may have been read. Writes nothing.
+/// Reads a request and returns its body. Ignores bytes after the body, but may read them. Writes nothing.
 pub fn take_request<S: Read>(alloc: Global, stream: &mut Counted<S>) -> Result<Text, WireFault>
     ensures carries { IfOk result (λ body. TakesBody HttpKind.Request S.remaining stream.old stream.new body) }
     ensures fails { IfErr result (λ fault. TakesNone HttpKind.Request S.remaining stream.old stream.new fault) }
@@ -66,7 +66,7 @@ pub fn take_request<S: Read>(alloc: Global, stream: &mut Counted<S>) -> Result<T
     receive(alloc, stream, HttpKind::Request, &mut received)
 }
 
-/// Writes a reply with this body. The stream is not flushed.
+/// Writes a reply with this body. Does not flush the stream.
 pub fn give_reply<S: Write>(
     alloc: Global,
     stream: &mut Counted<S>,

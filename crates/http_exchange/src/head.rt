@@ -34,7 +34,7 @@ pub enum HeadPart {
     Status,
     /// A request's method is not `POST`, or its target is not text.
     Method,
-    /// A line before the empty one does not have a name directly followed by a colon.
+    /// A line before the empty line does not begin with a name that is directly followed by a colon.
     FieldName,
     /// The value of a field contains a control byte.
     FieldValue,
@@ -97,7 +97,7 @@ fn max_body(kind: HttpKind) -> usize
     }
 }
 
-/// What the fields of a head of this size say about the body.
+/// The meaning of the fields of a head of this size for the body.
 fn framed(kind: HttpKind, size: usize, buf: &[u8], headers: &[HeaderSpan]) -> Head
     requires { All (IsHeaderWithin (length buf.now)) headers.now }
     ensures { result ≡ framed_by kind size (length_fault (map (header_bytes buf.now) headers.now)) (body_length (map (header_bytes buf.now) headers.now)) }
@@ -186,8 +186,8 @@ fn head_at(kind: HttpKind, bytes: &[u8]) -> Head
     }
 }
 
-/// What the bytes so far say about the head. `before` is what fewer bytes said; the head is parsed again only if it was
-/// unfinished.
+/// What the bytes so far say about the head. `before` is the result for fewer bytes; if it is not `Unfinished`, the
+/// head is not parsed again.
 pub(crate) fn head_after(kind: HttpKind, before: Head, bytes: &[u8]) -> Head
     requires { IsKnown kind bytes.now before }
     ensures head { HeadIs kind bytes.now result }

@@ -6,12 +6,12 @@ pub fn looks_stay()
     ensures { LooksStay }
 {}
 
-/// If a body is found in the bytes, they carry it.
+/// If a body is found in the bytes, the bytes carry it.
 pub fn found_is_carried()
     ensures { FoundIsCarried }
 {}
 
-/// If the bytes carry a body, the only possible result is where that body begins and ends.
+/// If the bytes carry a body, the only possible result is the position of this body.
 pub fn carried_is_found()
     ensures { CarriedIsFound }
 {}
@@ -26,7 +26,7 @@ pub fn carried_has_no_fault<S>()
     ensures { CarriedHasNoFault S }
 {}
 
-/// The reply that `give_reply` writes carries its body, if that is within the limit.
+/// The reply that `give_reply` writes carries its body, if the body is within the limit.
 pub fn reply_is_carried()
     ensures { ReplyIsCarried }
 {}

@@ -1,8 +1,8 @@
 //! HTTP exchanges over any stream, each with one request and one reply.
 //!
-//! A player is an HTTP server. `exchange` sends it a request and reads its reply; `take_request` and `give_reply` are the
-//! player's side. A body is accepted only if it is complete and within the limits, and if its end is given by one length
-//! or by the end of the stream. Each other outcome has its own error.
+//! A player is an HTTP server. `exchange` sends it a request and reads its reply; `take_request` and `give_reply` are
+//! the player's side. A body is accepted only if it is complete and within the limits, and if either one length or the
+//! end of the stream says where it ends. Every other outcome has a separate error.
 #![tactic(auto)]
 
 mod body_length;

@@ -1,4 +1,4 @@
-//! The result of inspecting the bytes of a message so far.
+//! The result for the bytes of a message so far.
 ghost use Rattle.std.specs.Prelude.{◌≡◌, ◌≤◌};
 ghost use Rattle.http_exchange.specs.Internal.Heads.{StartsWithin};
 ghost use Rattle.http_exchange.specs.Looks.{look_from, look_past};
@@ -7,7 +7,7 @@ ghost use Rattle.http_exchange.specs.Internal.Heads.{BodyWithin};
 use crate::head::{Frame, Head, MAX_HEAD, MAX_REPLY_BODY};
 use crate::wire_fault::FrameFault;
 
-/// The result of inspecting the bytes so far.
+/// The result for the bytes so far.
 #[derive(Clone, Copy)]
 pub enum Look {
     More,

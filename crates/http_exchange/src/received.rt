@@ -1,4 +1,4 @@
-//! How much of a reply came, if it had no usable body. Only error messages use this.
+//! How much of a reply came if it had no usable body. Only error messages use this.
 ghost use Rattle.std.specs.Prelude.{◌≡◌};
 ghost use Rattle.http_exchange.specs.Internal.Heads.{StartsWithin};
 ghost use Rattle.http_exchange.specs.Receipts.{receipt};
@@ -7,7 +7,7 @@ use crate::head::{Head, HeadPart, MAX_REPLY_BODY};
 use crate::wire_fault::FrameFault;
 use std::fmt;
 
-/// How far an exchange without a body got.
+/// How far an exchange got that brought no body.
 #[derive(Clone, Copy, PartialEq, Eq)]
 pub enum Received {
     /// There was no connection for the exchange.
@@ -17,9 +17,9 @@ pub enum Received {
     Nothing,
     /// This many bytes came, without the end of the head.
     Head(usize),
-    /// The first number of bytes of the body came; the second number is its length.
+    /// A part of the body came: its number of bytes, and the length of the whole body.
     Body(usize, usize),
-    /// This many bytes came of a body that continues to the end of the stream.
+    /// This many bytes came, of a body that continues to the end of the stream.
     OpenBody(usize),
     TransferEncoding,
     /// A `Content-Length` is not a number.
@@ -37,7 +37,7 @@ pub enum Received {
 }
 
 impl Received {
-    /// The number of bytes, if the text begins with it.
+    /// The number of bytes, if the text begins with one.
     fn count(self) -> Option<usize> {
         match self {
             Received::Head(count)
@@ -94,7 +94,7 @@ impl fmt::Debug for Received {
     }
 }
 
-/// How much of a reply came, from what its bytes say about the head and from their number.
+/// How much of a reply came, given the meaning of its bytes as a head and the number of bytes.
 pub(crate) fn received_of(head: Head, have: usize) -> Received
     requires { StartsWithin have head }
     ensures { result ≡ receipt head have }

@@ -50,8 +50,8 @@ fn body_of(alloc: Global, bytes: &[u8], start: usize, end: usize) -> Result<Text
     Text::from_slice(alloc, &bytes[start..end])
 }
 
-/// Reads a message and returns its body. It may read bytes after the body too. If no body is returned, `received` says
-/// how much of the message arrived.
+/// Reads a message and returns its body. May read bytes after the body. If there is no body to return, `received` says
+/// how much of the message came.
 pub(crate) fn receive<S: Read>(
     alloc: Global,
     stream: &mut Counted<S>,

@@ -33,7 +33,7 @@ fn write_once<S: Write>(stream: &mut Counted<S>, rest: &[u8]) -> Result<usize, W
     }
 }
 
-/// Writes all bytes of a text. An interrupted write is repeated.
+/// Writes all bytes of a text. Repeats interrupted writes.
 pub(crate) fn send<S: Write>(
     stream: &mut Counted<S>,
     text: &SharedText<'_>,

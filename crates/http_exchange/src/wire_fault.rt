@@ -8,11 +8,11 @@ use std::error::Error;
 use std::fmt;
 use std::io::ErrorKind;
 
-/// Why an exchange returned no body, or a reply was not written. The stream cannot be used afterwards: bytes that were read
-/// are lost, and bytes that were written stay written.
+/// Why an exchange returned no body, or a reply was not written. The stream is not usable afterwards: the bytes that
+/// were read are lost, and the bytes that were written remain written.
 #[derive(Clone, Copy, PartialEq, Eq)]
 pub enum WireFault {
-    /// A write failed for a reason other than an interruption, or took none of the bytes that it was given.
+    /// A write failed for a reason other than an interruption, or accepted no bytes.
     WriteFault,
     /// A read failed for a reason other than an interruption.
     ReadFault(ErrorKind),
@@ -20,7 +20,7 @@ pub enum WireFault {
     BadHead,
     /// A reply's status is not 200.
     BadStatus,
-    /// The fields do not have one length: there is a `Transfer-Encoding`, a length is not a number, two lengths are
+    /// The fields do not give one length: there is a `Transfer-Encoding`, a length is not a number, two lengths are
     /// different, or a request has no length.
     BadLength,
     /// The head has more than 16,384 bytes. Or, according to the head or the bytes that arrived, the body has more than

@@ -11,8 +11,8 @@ pub record Handed : Type 0 where
   pub body : List ℕ
   pub answer : Answer
 
--- Between `before` and `after`, the player received these messages. It shows them after the messages that it showed before, or it no
--- longer shows any, because it had no memory to store them.
+-- Between `before` and `after`, the player received these messages. Either the player shows them after the earlier ones, or it ran out of
+-- memory for a message and no longer shows any.
 abbrev pub MayKeep : Option (List Handed) → Option (List Handed) → List Handed → Type 0
 MayKeep before after messages = (after ≡ option_map (λ shown. shown ++ messages) before) ⊎ (after ≡ None)
 

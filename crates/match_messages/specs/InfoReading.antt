@@ -38,6 +38,6 @@ abbrev pub info_in : Expression → Info
 info_in (atom word) = status_named (atom word)
 info_in (list xs) = unwrap_or (first_status xs) Unknown
 
--- the status that a text gives if it is one expression, otherwise `Unknown`
+-- the status in a text that is one expression; for any other text `Unknown`
 abbrev pub info_reading : List ℕ → Info
 info_reading text = unwrap_or (option_map (λ x. info_in (folded x)) (reading text)) Unknown

@@ -1,4 +1,4 @@
--- The first words of the texts of messages, by kind.
+-- The first word of each kind of message.
 use Rattle.std.specs.Prelude.{ℕ, List, codes}
 use Rattle.match_messages.specs.declared.kind.MessageKind.{MessageKind}
 use Rattle.match_messages.specs.declared.kind.MessageKind.TheVariants.{Info, Start, Play, Stop, Abort}

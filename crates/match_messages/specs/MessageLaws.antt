@@ -12,7 +12,7 @@ use Rattle.match_messages.specs.MessageValue.{MessageValue, info, start, play, s
 use Rattle.match_messages.specs.MessageText.{message_text}
 use Rattle.match_messages.specs.MessageReading.{message_reading}
 
--- None, or at least one move; a text can spell the atoms of the moves
+-- None, or at least one move, and a text can spell all atoms of the moves
 abbrev pub AreMoves : Option Expressions → Type 0
 AreMoves None = Unit {0}
 AreMoves (Some none) = ⊥

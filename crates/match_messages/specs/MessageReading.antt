@@ -11,7 +11,7 @@ use Rattle.match_messages.specs.declared.messages.Message.{Message}
 use Rattle.match_messages.specs.declared.messages.MessageFault.{MessageFault}
 use Rattle.match_messages.specs.declared.messages.MessageFault.TheVariants.{Unreadable, BadMessage, BadClock, Memory}
 
--- a message, or why the text is not one
+-- a message, or the reason why a text is not a message
 abbrev pub Read : Type 0
 Read = Result MessageValue MessageFault
 
@@ -20,7 +20,7 @@ abbrev pub is_word : List ℕ → Expression → Bool
 is_word small (atom word) = bytes_eq (map lower word) small
 is_word small (list xs) = false
 
--- the lawful id that an expression gives
+-- the lawful id in an expression
 abbrev pub id_in : Expression → Option (List ℕ)
 id_in (atom word) = if is_name word then Some word else None
 id_in (list xs) = None
@@ -29,7 +29,7 @@ abbrev pub members_in : Expression → Option Expressions
 members_in (atom word) = None
 members_in (list xs) = Some xs
 
--- the moves that an expression gives: None for `NIL` and for the empty list
+-- the moves in an expression: None for `NIL` and for the empty list
 abbrev pub moves_in : Expression → Option (Option Expressions)
 moves_in (atom word) = if is_word (codes "nil") (atom word) then Some None else None
 moves_in (list none) = Some None
@@ -40,7 +40,7 @@ abbrev pub info_in : Expressions → Read
 info_in none = Ok info
 info_in (more x xs) = Err BadMessage
 
--- START with an id, a role, rules and both clocks; the clocks are tested last
+-- START with an id, a role, rules and both clocks; the clocks are checked last
 abbrev pub start_of : Option (List ℕ) → Expression → Option Expressions → Option ℕ → Option ℕ → Read
 start_of (Some id) role (Some rules) (Some s) (Some p) = Ok (start id (folded role) (all_folded rules) s p)
 start_of (Some id) role (Some rules) s p = Err BadClock
@@ -69,7 +69,7 @@ abbrev pub abort_in : Expressions → Read
 abort_in (more id none) = abort_of (id_in id)
 abort_in _ = Err BadMessage
 
--- the message of a keyword and the members after it
+-- the message with this keyword and these members after it
 abbrev pub message_of : Expression → Expressions → Read
 message_of keyword rest =
     if is_word (codes "info") keyword then info_in rest
@@ -79,13 +79,13 @@ message_of keyword rest =
     else (if is_word (codes "abort") keyword then abort_in rest
     else Err BadMessage))))
 
--- the message that an expression gives; the atom `INFO` means the list `(INFO)`
+-- the message in an expression; the atom `INFO` means the list `(INFO)`
 abbrev pub message_in : Expression → Read
 message_in (atom word) = if is_word (codes "info") (atom word) then Ok info else Err BadMessage
 message_in (list none) = Err BadMessage
 message_in (list (more keyword rest)) = message_of keyword rest
 
--- the message that an expression gives, or `Unreadable` if there is no expression
+-- the message in an expression, or `Unreadable` if there is no expression
 abbrev pub in_expression : Option Expression → Read
 in_expression None = Err Unreadable
 in_expression (Some x) = message_in x
@@ -93,7 +93,7 @@ in_expression (Some x) = message_in x
 abbrev pub message_reading : List ℕ → Read
 message_reading text = in_expression (reading text)
 
--- the result is what was read, a message or an error, unless memory ran out
+-- unless memory ran out, the result is the message or the error that reading gives
 abbrev pub Gives : Result Message MessageFault → Read → Type 0
 Gives (Ok m) read = read ≡ Ok (message_value m)
 Gives (Err Unreadable) read = read ≡ Err Unreadable

@@ -1,4 +1,4 @@
-//! The data that the messages of a match are made from.
+//! The data from which the messages of a match are made.
 ghost use Rattle.std.specs.Prelude.{◌≡◌};
 ghost use Rattle.match_messages.specs.BriefValue.{brief_value};
 

@@ -7,7 +7,7 @@ use desk_calls::{MAX_CLOCK, is_clock};
 use game_core::numeral::plain_number;
 use kif_text::Expr;
 
-/// The seconds that a word gives, if they are a lawful clock.
+/// The seconds in a word, if the word is a lawful clock.
 fn clock_of(word: &[u8]) -> Option<u32>
     ensures { result ≡ clock_of word.now }
 {
@@ -19,7 +19,7 @@ fn clock_of(word: &[u8]) -> Option<u32>
     }
 }
 
-/// The seconds that an expression gives, if they are a lawful clock.
+/// The seconds in an expression, if the expression is a lawful clock.
 pub fn clock_in(expr: &Expr) -> Option<u32>
     ensures { result ≡ clock_in (view expr.now) }
 {

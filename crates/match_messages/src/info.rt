@@ -12,7 +12,7 @@ pub enum Info {
     Available,
     Ready,
     Busy,
-    /// The answer gives no status.
+    /// The answer does not say the status.
     Unknown,
 }
 
@@ -82,7 +82,7 @@ fn first_status(members: &[Expr]) -> Option<Info>
     None
 }
 
-/// The status that an answer in lower case gives.
+/// The status in an answer that is in lower case.
 fn info_in(expr: &Expr) -> Info
     ensures { result ≡ info_in (view expr.now) }
 {

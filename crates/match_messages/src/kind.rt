@@ -1,4 +1,4 @@
-//! The kinds of messages, by their first word.
+//! The kinds of messages. The first word of a message determines its kind.
 ghost use Rattle.std.specs.Prelude.{◌↔◌, IsTrue, MatchOption};
 ghost use mathlib.Core.List.{IsPrefix};
 
@@ -18,7 +18,7 @@ pub enum MessageKind {
     Abort,
 }
 
-/// Whether the text begins with this word. The word may cross the parts of the text.
+/// Whether the text begins with this word. The word may be split between parts of the text.
 fn begins_with(text: &SharedText<'_>, word: &[u8]) -> bool
     ensures { IsTrue result ↔ IsPrefix word.now text.now }
 {
@@ -38,7 +38,7 @@ impl MessageKind {
     ghost use Rattle.match_messages.specs.MessageKinds.{kind_word};
     ghost use Rattle.match_messages.specs.declared.kind.MessageKind.{MessageKind};
 
-    /// The kind of a message, by its first word, or `None` if that word belongs to no kind.
+    /// The kind of a message, from its first word, or `None` if no kind has that word.
     pub fn of(message: &SharedText<'_>) -> Option<MessageKind>
         ensures { MatchOption result ((kind : MessageKind) → ¬ (IsPrefix (kind_word kind) message.now)) (λ kind. IsPrefix (kind_word kind) message.now) }
     {

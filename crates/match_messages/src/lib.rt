@@ -1,8 +1,8 @@
 //! The messages of a match, as the Stanford GGP communication specification defines them.
 //!
-//! `message` writes what the match owes to a role, as the referee sends it, and `read_message` reads it, as a player does.
-//! `shared_message` writes the same from borrowed data, with rules that are printed only once. `read_info` reads a player's
-//! answer to `info_message`.
+//! `message` writes the message that a match owes to a role, for the referee to send, and `read_message` reads a
+//! message, as a player does. `shared_message` writes the same message from borrowed data; the rules are printed only
+//! once. `read_info` reads a player's answer to `info_message`.
 #![tactic(auto)]
 
 mod brief;

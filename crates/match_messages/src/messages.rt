@@ -33,7 +33,7 @@ pub enum Message {
     },
 }
 
-/// Why a text is not a message: the first of these reasons that applies.
+/// Why a text is not a message. If several reasons apply, this is the first one.
 #[derive(Clone, Copy, Debug, PartialEq, Eq)]
 pub enum MessageFault {
     /// The text is not one expression within the limits of length and depth.

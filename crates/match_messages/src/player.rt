@@ -8,19 +8,20 @@ use std::alloc::{AllocError, Global};
 
 /// The player of a role: it receives messages and answers them.
 ///
-/// A player may show the messages that it received to contracts. A player in memory does; a player on the network does
-/// not. If a player has no memory left to store a message, it shows no messages from then on.
+/// A player *shows* its messages if contracts can name the messages that it received. A player in memory shows its
+/// messages; a player on the network does not. A player that runs out of memory for storing a message shows no messages
+/// from then on.
 pub trait Player {
     /// The messages that the player received, with its answers, in order, or `None` if the player does not show them.
     ghost handed: { Self → Option (List Handed) };
 
-    /// Sends the player a message and waits for the answer. If the player takes longer than `seconds` seconds, the answer is
+    /// Sends the player a message and waits for the answer. If none has come after `seconds` seconds, the answer is
     /// `Silent`.
     fn ask(&mut self, seconds: u32, body: &[u8]) -> Answer
         ensures { MayKeep (handed self.old) (handed self.new) (record { seconds = seconds; body = body.now; answer = result } ∷ []) };
 
-    /// Does the same with a message that shares a part with other messages. A player that needs the message in one piece
-    /// joins the parts first; if memory runs out for that, the player received nothing.
+    /// Like `ask`, with a message that shares a part with other messages. A player that needs the message in one piece
+    /// joins the parts first; if there is no memory for that, the player receives nothing.
     fn ask_shared(
         &mut self,
         alloc: Global,
@@ -34,7 +35,7 @@ pub trait Player {
         Ok(self.ask(seconds, body.as_slice()))
     }
 
-    /// Waits a while. Called when the match owes nothing to the role.
+    /// Waits a while. A worker calls this when the match owes nothing to the role.
     fn rest(&mut self)
         ensures { handed self.new ≡ handed self.old };
 

@@ -23,7 +23,7 @@ fn is_word(expr: &Expr, small: &[u8]) -> bool
     }
 }
 
-/// The lawful id that an expression gives.
+/// The lawful id in an expression.
 fn id_in(expr: &Expr) -> Option<&Text>
     ensures { option_copied result ≡ id_in (view expr.now) }
 {
@@ -49,7 +49,7 @@ fn members_in(expr: &Expr) -> Option<&[Expr]>
     }
 }
 
-/// The moves that an expression gives: `None` for `NIL` and for the empty list.
+/// The moves in an expression: `None` for `NIL` and for the empty list.
 #[tactic(auto, using(crate::proofs::Forms::moves_listed))]
 fn moves_in(alloc: Global, expr: &Expr) -> Result<Option<Vec<Expr>>, MessageFault>
     ensures { GivesMoves result (moves_in (view expr.now)) }
@@ -67,7 +67,7 @@ fn moves_in(alloc: Global, expr: &Expr) -> Result<Option<Vec<Expr>>, MessageFaul
     Ok(Some(folded_copies(alloc, moves)?))
 }
 
-/// START with an id, a role, rules and both clocks. The clocks are tested last.
+/// START with an id, a role, rules and both clocks. Checks the clocks last.
 fn start_of(
     alloc: Global,
     id: Option<&Text>,
@@ -156,7 +156,7 @@ fn info_in(members: &[Expr]) -> Result<Message, MessageFault>
     }
 }
 
-/// Reads a keyword and the members after it.
+/// The message with this keyword and these members after it.
 fn message_of(alloc: Global, keyword: &Expr, rest: &[Expr]) -> Result<Message, MessageFault>
     ensures { Gives result (message_of (view keyword.now) (views rest.now)) }
 {

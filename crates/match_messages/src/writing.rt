@@ -99,7 +99,7 @@ fn start_end(alloc: Global, start: u32, play: u32) -> Result<Vec<u8>, AllocError
     Ok(end)
 }
 
-/// Puts the rules of START between these two texts. Rules that are already printed are shared.
+/// Puts the rules of START between these two texts. Shares rules that are already printed.
 fn around_rules<'r>(
     alloc: Global,
     front: Vec<u8>,

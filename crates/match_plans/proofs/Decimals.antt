@@ -27,7 +27,7 @@ all-digits text limit digits = cond-true (are_digits text) (number_up_to text li
 too-large : (text : List ℕ) (limit : ℕ) → are_digits text ≡ true → limit < digits_value 10 text → None ≡ decimal_of text limit
 too-large text limit digits large = sym (all-digits text limit digits ∙ cond-false (leb (digits_value 10 text) limit) (Some (digits_value 10 text)) None (lt-leb (digits_value 10 text) limit large))
 
--- what `parse` reads in digits, within the limit
+-- the number that `parse` reads in digits, if it is within the limit
 pub number-read : {E : Type 0} (text : List ℕ) (limit number : ℕ) (r : Result ℕ E) → ParsesUnsigned 64 10 text r → r ≡ Ok number → are_digits text ≡ true → number ≤ limit → Some number ≡ decimal_of text limit
 number-read {E} text limit number r reads is digits within =
     let all = (and_parts (ltb 0 (length text)) (list_all is_ascii_digit text) digits).1 in

@@ -1,4 +1,4 @@
--- One more match, and the first match that cannot follow the others.
+-- Placing one more match, and the first match that cannot follow the earlier ones.
 use Rattle.std.proofs.Common.{◌≡◌, ◌≢◌, ◌||◌, ◌+◌, ◌∙◌, ◌∷◌, ◌++◌, [], ℕ, ◌<◌, Bool, true, false, eqb, List, All, Bor, Some, None, get_or, if◌then◌else◌, length, map, not, take, refl, sym, ap, subst, inl, inr, arith, eqb-true, eq-eqb, ne_eqb}
 use Rattle.std.specs.List.{AllPairs, AllZip, filter, list_any}
 use Rattle.std.specs.Str.{bytes_eq}

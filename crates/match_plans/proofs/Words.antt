@@ -26,7 +26,7 @@ pub first-some : (text : List ℕ) (r : Option (Bor (List ℕ))) (rest : Bor (Li
 first-some text None rest none is = let bad : ⊥ = cc in absurd bad
 first-some text (Some x) rest e is = let same : x ≡ rest = cc in e ∙ ap (λ (b : Bor (List ℕ)). 91 ∷ b.now) same
 
--- a text is in brackets if, without its opening bracket, it ends with a closing one
+-- a text is in brackets if it begins with an opening bracket and the rest of it ends with a closing one
 pub unbracketed : (text rest : List ℕ) (r : Option (Bor (List ℕ))) → text ≡ 91 ∷ rest → MatchOption r ((front : List ℕ) → rest ≢ front ++ 93 ∷ []) (λ x. rest ≡ x.now ++ 93 ∷ [])
     → MatchOption r ((inner : List ℕ) → text ≢ bracketed inner) (λ inner. text ≡ bracketed inner.now)
 unbracketed text rest None is none = λ inner e. let same : rest ≡ inner ++ 93 ∷ [] = cc in none inner same
@@ -117,7 +117,7 @@ next-player words i n m d within next good =
     ∙ ap (λ (j : ℕ). player_fault (n + 1) (map (λ w. w.now) (drop j words))) (sym (add-one i))
     ∙ ap (λ (k : ℕ). player_fault k (map (λ w. w.now) (drop (i + 1) words))) (sym next)
 
--- the error of a text line, from what its first three words are read as, and the error of the others
+-- the error of a text line, given what its first three words give and the error of the other words
 abbrev pub told : Bool → Option ℕ → Option ℕ → Option LineFault → Option LineFault
 told text start play players = if not text then Some NoId else (if is_none start then Some (NoClock 2) else (if is_none play then Some (NoClock 3) else players))
 

@@ -12,7 +12,7 @@ use Rattle.match_plans.specs.declared.addresses.PlayerAddress.{PlayerAddress}
 abbrev pub addressed_name : List ℕ → List ℕ
 addressed_name word = before_first (λ b. b == 64) word
 
--- the parts before and after the last c of a text, from those of the text without its first byte
+-- the parts before and after the last c of a text, given those of the text without its first byte
 abbrev pub cut_here : ℕ → ℕ → List ℕ → Option (List ℕ × List ℕ) → Option (List ℕ × List ℕ)
 cut_here c b more None = if b == c then Some ([], more) else None
 cut_here c b more (Some cut) = Some (b ∷ cut.0, cut.1)
@@ -31,7 +31,7 @@ bracketed text = 91 ∷ (text ++ 93 ∷ [])
 abbrev pub IsIpv6 : List ℕ → Type 0
 IsIpv6 text = (address : Ipv6Addr) × IsIpv6Text text address
 
--- If the text is an IPv6 address in brackets, the host is the address without the brackets. Any other text is the host itself.
+-- The host is the address without its brackets if the text is an IPv6 address in brackets, and otherwise the text itself.
 abbrev pub IsHostOf : List ℕ → List ℕ → Type 0
 IsHostOf text host = ((text ≡ bracketed host) × IsIpv6 host) ⊎ ((host ≡ text) × ((inner : List ℕ) → text ≡ bracketed inner → ¬ (IsIpv6 inner)))
 

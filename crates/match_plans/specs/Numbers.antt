@@ -2,7 +2,7 @@
 use Rattle.std.specs.Prelude.{ℕ, List, Option, Some, None, if◌then◌else◌, nat_le}
 use Rattle.game_core.specs.Numerals.{are_digits, number_up_to}
 
--- the number that decimal digits write, if it is within the limit; leading zeros are accepted
+-- the number that the decimal digits write, if it is within the limit; leading zeros are accepted
 abbrev pub decimal_of : List ℕ → ℕ → Option ℕ
 decimal_of text limit = if are_digits text then number_up_to text limit else None
 

@@ -32,7 +32,7 @@ abbrev pub is_blank_or_comment : List (List ℕ) → Bool
 is_blank_or_comment [] = true
 is_blank_or_comment (word ∷ words) = is_comment word
 
--- the words of the text lines with a match, line by line
+-- the words of each text line with a match, in order
 abbrev pub match_words : List (List ℕ) → List (List (List ℕ))
 match_words lines = filter (λ words. not (is_blank_or_comment words)) (map (λ line. line_words (strip_carriage_return line)) lines)
 
@@ -58,7 +58,7 @@ word_fault (id ∷ start ∷ play ∷ player ∷ players) =
     else player_fault 4 (player ∷ players)))
 word_fault words = Some TooFewWords
 
--- the plan has the values of these words: the id, the seconds for START, those for all other messages, and the players
+-- the plan has the values in these words: the id, the seconds for START, the seconds for all other messages, and the players
 abbrev pub IsPlanned : ℕ → List (List ℕ) → MatchPlan → Type 0
 IsPlanned strikes (id ∷ start ∷ play ∷ players) plan =
     (plan.id.now ≡ id) × (clock_of start ≡ Some plan.start) × (clock_of play ≡ Some plan.play) × (plan.strikes ≡ strikes)
@@ -86,14 +86,14 @@ HasFault roles before plan fault =
     (misplaced roles (map (λ it. it.id.now) before) plan.id.now (vec_len plan.players) ≡ Some fault)
     ⊎ ((misplaced roles (map (λ it. it.id.now) before) plan.id.now (vec_len plan.players) ≡ None) × (fault ≡ TooMany) × (length before ≡ 65536))
 
--- the error of a text line with these words after these matches: the error of its words, or else the error of its match
+-- the error of a text line with these words after these matches: the error of its words or, if they have none, of its match
 abbrev pub IsFaultOf : ℕ → ℕ → List MatchPlan → List (List ℕ) → LineFault → Type 0
 IsFaultOf roles strikes before words fault =
     (is_blank_or_comment words ≡ false)
     × ((word_fault words ≡ Some fault)
     ⊎ ((plan : MatchPlan) × (word_fault words ≡ None) × IsPlanned strikes words plan × HasFault roles before plan fault))
 
--- The text line with this index is the first bad one, and this is its error. Each line before it has a match or is ignored.
+-- The text line with this index is the first bad one, with this error. Each text line before it has a match or is ignored.
 pub record IsFirstBad (roles strikes : ℕ) (lines : List (List ℕ)) (at : ℕ) (fault : LineFault) : Type 0 where
   pub within : at < length lines
   pub before : List MatchPlan

@@ -7,8 +7,8 @@ use crate::numbers::decimal_from;
 use desk_calls::is_name;
 use std::net::Ipv6Addr;
 
-/// The address of a player, written `NAME@HOST:PORT`. The first `@` and the last `:` after it separate the parts. An IPv6
-/// address has brackets in the word, but none here.
+/// The address of a player. In a word it is written `NAME@HOST:PORT`; the first `@` and the last `:` after it separate
+/// the parts. An IPv6 address has brackets in the word, but not here.
 #[derive(Clone, Copy, PartialEq, Eq)]
 pub struct PlayerAddress<'a> {
     pub name: &'a str,
@@ -31,7 +31,7 @@ fn is_ipv6(text: &str) -> bool
     text.parse::<Ipv6Addr>().is_ok()
 }
 
-/// The host, without brackets if it is an IPv6 address. An address with a zone keeps its brackets here; `network_players`
+/// The host, without brackets if it is an IPv6 address. An address with a zone keeps its brackets; `network_players`
 /// removes them.
 fn plain_host(host: &str) -> &str
     ensures { IsHostOf host.now result.now }

@@ -14,7 +14,7 @@ pub enum RulesSource<'a> {
 /// The source of a game.
 #[derive(Clone, Copy)]
 pub enum GameSource<'a> {
-    /// Countdown with a heap of this size, which may be out of range.
+    /// Countdown with a heap of this size. The size may be out of range.
     Countdown(u8),
     /// The game of a ground description within these limits.
     Described(RulesSource<'a>, Limits),
@@ -33,7 +33,7 @@ pub enum GameCommand {
     Replay,
 }
 
-/// A command, the source of its game, and the path of its input. Without a path the input is standard input.
+/// A command, the source of its game, and the path of its input. Without a path, the command reads standard input.
 #[derive(Clone, Copy)]
 pub struct GameTask<'a> {
     pub command: GameCommand,

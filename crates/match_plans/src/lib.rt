@@ -1,8 +1,7 @@
 //! Plans of matches: addresses of players, the source of a game, a match, the matches of a schedule, and the check of a
 //! player.
-//!
-//! The trait `Reach` makes the players of a planned match, and `ReportsShortages` reports which resource the referee lacked
-//! in it.
+//! The trait `Reach` makes the players of a planned match, and `ReportsShortages` reports which resource the referee
+//! lacked in the match.
 #![tactic(auto)]
 
 mod addresses;

@@ -19,7 +19,7 @@ pub fn decimal(text: &str, limit: u64) -> Option<u64>
     if number <= limit { Some(number) } else { None }
 }
 
-/// Reads a number of at least `least`, as `decimal` does.
+/// Reads a number that is at least `least`, as `decimal` does.
 pub fn decimal_from(text: &str, least: u64, limit: u64) -> Option<u64>
     ensures within { IfSome result (λ number. number ≤ limit) }
     ensures value { result ≡ at_least least (decimal_of text.now limit) }

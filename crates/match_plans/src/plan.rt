@@ -2,8 +2,8 @@
 
 use crate::addresses::PlayerAddress;
 
-/// A match between players on the network. The clocks are in seconds. After `strikes` replaced moves in a row a role is
-/// retired; 0 means never. The players are in the order of the roles.
+/// A match between players on the network. The clocks are in seconds. A role is retired after `strikes` replaced moves
+/// in a row; if `strikes` is 0, no role is retired. The players are in the order of the roles.
 #[derive(Drop)]
 pub struct MatchPlan<'a> {
     pub id: &'a str,

@@ -38,7 +38,7 @@ pub(crate) fn is_blank_or_comment(words: &[&[u8]]) -> bool
 /// The largest number of seconds in a schedule. Clocks have a smaller limit (`is_clock` of `desk_calls`).
 const MAX_WORD_SECONDS: usize = 4_294_967_295;
 
-/// The number of seconds in a word, which may be out of a clock's range.
+/// The number of seconds in a word. It may be out of a clock's range.
 fn clock(word: &[u8]) -> Option<u32>
     ensures { result ≡ clock_of word.now }
 {
@@ -58,7 +58,7 @@ fn player(word: &[u8]) -> Option<PlayerAddress<'_>>
 /// The number of the first player's word, counted from 1.
 const FIRST_PLAYER: u64 = 4;
 
-/// The addresses in the players' words. The inner error is that of the first word that is not an address.
+/// The addresses in the players' words. The inner error is the error of the first word that is not an address.
 fn players<'a>(
     alloc: Global,
     words: &[&'a [u8]],

@@ -7,7 +7,7 @@ use std::alloc::{AllocError, Global};
 /// A role of a match in a batch.
 #[derive(Clone, Copy)]
 pub struct RolePlace<'a> {
-    /// The index of the match in its batch. It is 0 for a match without a batch.
+    /// The index of the match in its batch, or 0 if there is no batch.
     pub place: usize,
     /// The match's id.
     pub id: &'a str,
@@ -24,10 +24,10 @@ pub trait Reach {
     ghost use Rattle.match_plans.specs.declared.addresses.PlayerAddress.{PlayerAddress};
     ghost use Rattle.match_plans.specs.declared.reach.RolePlace.{RolePlace};
 
-    /// This player was made for this address and this role of a match. By default this holds for every player.
+    /// This player was made for this address and this role of a match. By default, this holds for every player.
     ghost is_reached: { Self → RolePlace → PlayerAddress → Self.Player → Type 0 } = { λ s at address player. Unit {0} };
 
-    /// Makes the player at this address for this role of a match. Sends the player nothing. The only error is out of
+    /// Makes the player at this address for this role of a match, and sends it nothing. The only error is out of
     /// memory.
     fn player(
         &self,

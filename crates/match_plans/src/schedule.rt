@@ -17,8 +17,7 @@ pub const MAX_SCHEDULED: usize = 65_536;
 /// The largest number of matches of a schedule that are played at once.
 pub const MAX_AT_ONCE: usize = 1_024;
 
-/// Why a match cannot follow the matches with these ids, in a game of `roles` roles. If the match can follow them, this
-/// adds its id.
+/// Why a match cannot follow the matches with these ids, in a game of `roles` roles. If it can, this adds its id.
 fn misplaced<'a>(
     ids: &mut IndexSet<&'a [u8]>,
     plan: &MatchPlan<'a>,
@@ -39,8 +38,8 @@ fn misplaced<'a>(
 }
 
 /// Reads a schedule for a game of `roles` roles. Returns its matches in the order of the text lines, all with the same
-/// strikes. Ignores text lines that have no words or whose first word begins with `#`. The error is the first bad text
-/// line, or `Memory`.
+/// strikes. Ignores text lines that have no words or whose first word begins with `#`. The error gives the first bad
+/// text line, or is `Memory`.
 pub fn read_schedule<'a>(
     alloc: Global,
     input: &'a [u8],

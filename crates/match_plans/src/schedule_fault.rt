@@ -3,7 +3,8 @@
 use std::alloc::{AllocError, AllocFailed};
 use thiserror::Error;
 
-/// The error of a text line of a schedule. Its words must be `ID START PLAY NAME@HOST:PORT ..`; they are counted from 1.
+/// The error of a text line of a schedule. The words of the text line must be `ID START PLAY NAME@HOST:PORT ..`. Words
+/// are counted from 1.
 #[derive(Clone, Copy, Debug, PartialEq, Eq, Error)]
 pub enum LineFault {
     #[error("fewer than four words")]

@@ -3,7 +3,7 @@
 /// The order in which the records are written.
 #[derive(Clone, Copy)]
 pub enum RecordOrder {
-    /// The order of the schedule. A record is written when it and all records before it are complete.
+    /// The order of the schedule. A record is written once it and all records before it are complete.
     OfSchedule,
     /// The order in which the matches end.
     OfEnds,

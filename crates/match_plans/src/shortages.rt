@@ -1,4 +1,4 @@
-//! Resources that the referee itself may lack. No player is at fault for this.
+//! Resources that the referee itself may lack. This is not the fault of a player.
 ghost use Rattle.std.specs.Prelude.{ℕ, IfNone};
 
 use thiserror::Error;
@@ -17,20 +17,21 @@ pub enum Shortage {
     /// The clock cannot be read.
     #[error("no clock")]
     Clock,
-    /// The name of a host could not be looked up, and the host is not the cause.
+    /// The name of a host could not be looked up, for a reason that has nothing to do with the host.
     #[error("no answer from the resolver")]
     Resolver,
-    /// This computer's network is down, has no route to the player, has no address of the player's family, or forbids the
-    /// connection.
+    /// This computer's network is down, has no route to the player, has no address of the player's address family, or
+    /// forbids the connection.
     #[error("no network")]
     Network,
-    /// The referee was stopped while it sent the request, until the player closed the connection.
+    /// The referee was not running for some time while it sent the request, and the player closed the connection
+    /// meanwhile.
     #[error("no processor")]
     Processor,
 }
 
 /// Reports which resource the referee lacked in a match. Such a match has no record, because an answer in it may not be
-/// the player's own.
+/// the player's.
 pub trait ReportsShortages {
     /// The reporter has said that the referee lacked no resource in the match with this index.
     ghost is_clear: { Self → ℕ → Type 0 };

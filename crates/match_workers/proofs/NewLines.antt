@@ -14,7 +14,7 @@ behind_first_at {A} all rest is k x at = at_behind all k x (subst (λ xs. slice_
     at_behind [] n y found = absurd cc
     at_behind (z ∷ zs) n y found = (omega (arith, slice_get_within zs n y found), (let next : suc n ≡ n + 1 = omega arith in subst (λ m. slice_index_or (z ∷ zs) m y ≡ y) next (get_or_from_slice_get zs n y y found)))
 
--- new lines stay new while the desk serves
+-- lines that are new stay new while the desk serves
 module _ {C R : Type 0} where
   pub seats_of_ports : NewLinesStay C R → (ports ports' : List (Port C R)) (others : List (LineValue C R)) → SamePorts ports ports' → length ports ≡ length others + 1 → AreSeatLines ports others → AreSeatLines ports' others
   seats_of_ports stay ports ports' others same count new role line at =

@@ -33,7 +33,7 @@ use Rattle.match_workers.specs.LineParts.{open_call, OpensMatch, AreRoleLines}
 use Rattle.match_workers.specs.OneMatch.{HasOneMatch}
 use Rattle.match_workers.specs.Refusals.{manager_of}
 
--- answers do not change a match's setup
+-- recording answers does not change a match's setup
 recorded-setup : {S M : Type 0} (g : Rules S M) (m : MatchValue M) → (recorded g m).setup ≡ m.setup
 recorded-setup {S} {M} g m = step (every_role g.roles (answered_in Playing m))
   where
@@ -86,7 +86,7 @@ same_line line other same = grind (arith, nat_tests, same)
 other_line : (line other : ℕ) → line ≡ 0 → 0 < other → (line == other) ≡ false
 other_line line other zeroth some = grind (arith, nat_tests, zeroth, some)
 
--- the first reply is not that there is no match
+-- the first reply does not say that there is no match
 abbrev pub IsAdmitted : List (Entry Call Reply) → Type 0
 IsAdmitted [] = Unit {0}
 IsAdmitted (e ∷ es) = e.reply ≢ Refused NoMatch
@@ -141,7 +141,7 @@ module _ {G S M : Type 0} (rules : G → Rules S M) (game : G) (setup : Setup) w
     pub within : All (λ e. e.line < roles + 1) later
     pub each : AreRoleLines setup.id roles later
     pub no_first : part 0 later ≡ []
-    -- a line whose first reply is not that there is no match made all its calls after the opening
+    -- if the first reply on a line does not say that there is no match, the line made all its calls after the opening
     pub same_part : (line : ℕ) → 0 < line → IsAdmitted (part line history) → part line later ≡ part line history
 
   pub after_opening : (roles : ℕ) (history : List (Entry Call Reply)) → All (λ e. e.line < roles + 1) history → AreRoleLines setup.id roles history → OpensMatch setup history
@@ -219,6 +219,6 @@ module _ {G S M : Type 0} (rules : G → Rules S M) (game : G) (setup : Setup) w
       subst (HasOneMatch game setup) (sym (replay.leaves ∙ ap (λ x. run (after rules) x history) begins ∙ later.leaves))
       (run-one roles opened.0 (new_match (rules game) setup) refl later.within later.each later.no_first)
 
--- what the result of a refereed match states of that
+-- a manager with exactly one match has a list of one match
 pub length-one : {G M : Type 0} (game : G) (setup : Setup) (d : ManagerValue G M) → HasOneMatch game setup d → length d.matches ≡ 1
 length-one {G} {M} game setup d one = ap (λ (x : ManagerValue G M). length x.matches) one.is_all

@@ -1,4 +1,4 @@
--- The messages that a role was owed on its line are those of the role in the match.
+-- The replies on a role's line owe exactly the role's messages in the match.
 use Rattle.std.proofs.Common.{◌≡◌, ◌≢◌, ◌==◌, ℕ, ◌+◌, ◌<◌, Bool, true, false, cond, List, [], ◌∷◌, ◌++◌, length, map, All, Option, Some, None, Ok, refl, sym, ap, subst, ◌∙◌, arith, append_assoc, append-nil}
 use Rattle.std.specs.Prelude.{if◌then◌else◌, is_none, nat_lt, option_map, option_and_then, unwrap_or}
 use Rattle.std.specs.List.{filter_map, cons_option}
@@ -41,7 +41,7 @@ use Rattle.match_workers.specs.LineParts.{AreRoleLines}
 use Rattle.match_workers.specs.Laws.{RolesAreOwed}
 use Rattle.match_workers.proofs.OneMatch.{after_call, after_call-setup, later-role_lines, role_entry, IsAdmitted, with_one, role_call-one, after_opening}
 
--- the entries of a worker that makes these steps and then finds the end
+-- the entries of a worker that makes these steps, and then the step that finds the end
 record AreStepsOf (brief : BriefValue) (role : ℕ) (steps : List Step) (entries : List (Entry Call Reply)) : Type 0 where
   go_on : All (λ step. goes_on step ≡ true) steps
   calls : calls_of entries ≡ filter_map call_in (events_of_all brief role (steps ++ finds_the_end ∷ []))
@@ -78,9 +78,9 @@ admitted brief role (hands_over n owed answer said ∷ steps) (e ∷ es) of = λ
 admitted brief role (finds_the_end ∷ steps) (e ∷ es) of = let goes = All-head (λ s. goes_on s ≡ true) finds_the_end steps of.go_on in absurd cc
 admitted brief role (finds_no_due said ∷ steps) (e ∷ es) of = let goes = All-head (λ s. goes_on s ≡ true) (finds_no_due said) steps of.go_on in absurd cc
 
--- The position of a role in a match, if these entries of its line are still to come, and these are all messages that it is owed.
+-- The position of a role in a match: these entries of its line are still to come, and these are all messages that the role is owed.
 data IsAt {S M : Type 0} (g : Rules S M) (brief : BriefValue) (role : ℕ) (messages : List Owed) (m : MatchValue M) (entries : List (Entry Call Reply)) : Type 0 where
-  -- the worker asks next
+  -- next, the worker asks what is due
   asks : (steps : List Step) → AreStepsOf brief role steps entries → messages ≡ answered_messages g m role ++ owed_on entries → IsAt g brief role messages m entries
   answers : (e : Entry Call Reply) (es : List (Entry Call Reply)) (n : ℕ) (owed : Owed) (answer : Answer) (steps : List Step) → entries ≡ e ∷ es → e.call ≡ answer_call brief.id role n answer → owed_of e.reply ≡ None
       → AreStepsOf brief role steps es → due g m role ≡ Owe n owed → messages ≡ (answered_messages g m role ++ owed ∷ []) ++ owed_on es → IsAt g brief role messages m entries
@@ -162,7 +162,7 @@ module _ {S M : Type 0} (g : Rules S M) (own : OwedIsAnswered g) (others : Other
   other_step id other (Query i) entries is apart at = absurd is
   other_step id other (Abort i) entries is apart at = absurd is
 
-  -- at the end no more entries are to come
+  -- at the end, no more entries are to come
   all_messages : IsAt g brief role messages m [] → messages ≡ role_messages g m role
   all_messages (asks steps of all) = absurd (some_call brief role steps of)
   all_messages (answers e es n owed answer steps is call none of now all) = absurd cc

@@ -1,4 +1,4 @@
--- The errors that are not refusals.
+-- Errors that are not refusals.
 use Rattle.std.proofs.Common.{◌≡◌, None, refl}
 use Rattle.call_history.specs.declared.wire.AskFault.{AskFault}
 use Rattle.call_history.specs.declared.wire.AskFault.TheVariants.{Full, Memory, Stalled}

@@ -1,4 +1,4 @@
--- The data of a match that its players get.
+-- The data of a match that the players get.
 use Rattle.std.specs.Prelude.{◌≡◌, ℕ, ◌<◌, List, [], length, slice_index_or}
 use Rattle.game_core.specs.Play.{Rules}
 use Rattle.desk_calls.specs.declared.setup.Setup.{Setup}

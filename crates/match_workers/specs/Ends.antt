@@ -16,7 +16,7 @@ use Rattle.role_workers.specs.Places.{EachAt}
 -- A worker attended the role with this player over a line that has these entries in the history. `end` was the result, and
 -- `player_left` is the player afterwards.
 pub record IsEndOf {P : Type 0} (handed : P → Option (List Handed)) (brief : BriefValue) (tries role : ℕ) (player player_left : P) (entries : List (Entry Call Reply)) (end : Result ℕ AttendFault) : Type 0 where
-  -- the replies to the worker: the first replies to its calls, and all of them if it found the end of the match
+  -- the replies to the worker: the first replies to its calls, or all of them if it found the end of the match
   pub replies : List Reply
   pub are_first : IsPrefix replies (replies_of entries)
   pub are_all : IsOk end → replies ≡ replies_of entries

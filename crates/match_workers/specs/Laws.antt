@@ -15,7 +15,7 @@ use Rattle.role_workers.specs.RoleCalls.{owed_of}
 use Rattle.role_workers.specs.RoleLines.{line_of}
 use Rattle.match_workers.specs.Refereeing.{IsRefereed}
 
--- if the role's worker found the end of the match, the role's line was owed exactly the role's messages in the match of the closed desk
+-- if the role's worker found the end of the match, the replies on the role's line owed exactly the role's messages in the match
 abbrev pub RolesAreOwed : {G S M P : Type 0} → (G → Rules S M) → (P → Option (List Handed)) → Type 0
 RolesAreOwed {G} {S} {M} {P} rules handed = (game : G) (setup : Setup) (printed : List ℕ) (tries : ℕ) (players left : List P) (d : ManagerValue G M) (history : List (Entry Call Reply)) (made_by_line : List ℕ)
     (ends : List (Result ℕ AttendFault)) (refereed : IsRefereed rules handed game setup printed tries players left d history made_by_line ends) (role count : ℕ)

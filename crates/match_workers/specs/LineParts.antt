@@ -1,4 +1,4 @@
--- The calls on the lines of a match's desk: the first line opened the match, and each other line asked and answered for one role.
+-- The calls on the lines of a match's desk. The first line opened the match; each other line asked and answered for one role.
 use Rattle.std.specs.Prelude.{◌≡◌, ℕ, ◌<◌, List, [], ◌∷◌, All, length, slice_index_or}
 use Rattle.call_history.specs.declared.journal.Entry.{Entry}
 use Rattle.call_history.specs.Parts.{part, calls_of}

@@ -6,7 +6,7 @@ use Rattle.desk_calls.specs.declared.call.Refusal.{Refusal}
 use Rattle.match_workers.specs.declared.refereeing.RefereeFault.{RefereeFault}
 use Rattle.match_workers.specs.declared.refereeing.RefereeFault.TheVariants.{Refused, Full as IsFull, Memory as IsMemory, Unclosed as IsUnclosed}
 
--- the error of a match whose opening got no reply, for this reason
+-- the error if the call that opens the match got no reply, for this reason
 abbrev pub referee_fault : AskFault → RefereeFault
 referee_fault Full = IsFull
 referee_fault Memory = IsMemory

@@ -15,12 +15,12 @@ use Rattle.match_messages.specs.Handing.{Handed}
 use Rattle.match_workers.specs.LineParts.{OpensMatch, AreRoleLines, AreCounts}
 use Rattle.match_workers.specs.OneMatch.{HasOneMatch}
 
--- A match of this game with this setup was played between these players, who got these rules, with at most this many tries for each
--- role. `left` are the players afterwards. The desk closed with this manager and this history; its lines made these numbers of calls.
+-- A match of this game with this setup was played by these players, who got these rules, with at most this many tries for each role. `left`
+-- are the players afterwards. The desk was closed with this manager and this history; its lines made these numbers of calls.
 pub record IsRefereed {G S M P : Type 0} (rules : G → Rules S M) (handed : P → Option (List Handed)) (game : G) (setup : Setup) (printed : List ℕ) (tries : ℕ) (players left : List P)
     (d : ManagerValue G M) (history : List (Entry Call Reply)) (made_by_line : List ℕ) (ends : List (Result ℕ AttendFault)) : Type 0 where
   pub headline : HasHeadline rules ((rules game).roles + 1) d history made_by_line
-  -- the history starts from the given game without matches, and its first line opened the match with the given setup
+  -- the history starts from the given game without matches; its first line opened the match with the given setup
   pub begins : opening d ≡ record { games = game ∷ []; matches = [] }
   pub first_line : OpensMatch setup history
   -- each other line belongs to a role, and made only calls of the role

@@ -1,4 +1,4 @@
--- When the opening of a refereed match is refused.
+-- When the desk refuses to open a match.
 use Rattle.std.specs.Prelude.{[], ◌∷◌, Option}
 use Rattle.game_core.specs.Play.{Rules}
 use Rattle.desk_calls.specs.declared.call.Refusal.{Refusal}

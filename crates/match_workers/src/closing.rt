@@ -31,7 +31,7 @@ pub fn close_match<G: Game + Drop>(
 
     ensures no_refusal { IfErr result (λ fault. reason_of fault ≡ None) }
 
-    // The waiting calls are served first. Otherwise, a full history would be reported as a desk that was not closed.
+    // This serves the waiting calls first. Otherwise a full history would be reported as a desk that was not closed.
     ensures unclosed { IfErr result (λ fault. fault ≡ IsUnclosed → WasIdle desk lines.items) }
 {
     lines_stay::<Manager<G>>();

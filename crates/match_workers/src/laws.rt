@@ -5,10 +5,11 @@ use game_core::Game;
 use match_book::laws::{answers_keep_lawful, messages_are_answered, new_match_is_lawful};
 use match_messages::Player;
 
-/// In a refereed match, the desk owed these messages to a role whose worker found the end, each once and in this order:
+/// In a refereed match, the desk owed a role whose worker found the end exactly these messages, each once and in this
+/// order:
 ///
 /// - START;
-/// - PLAY before each turn, with the joint move of the previous turn, unless the earlier turns retire the role;
+/// - PLAY before each turn, with the joint move of the previous turn, until the role is retired;
 /// - STOP or ABORT.
 ///
 /// The turns are those of the match in the closed desk.

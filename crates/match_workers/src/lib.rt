@@ -1,7 +1,7 @@
 //! Referees a whole match between players.
 //!
-//! `referee` opens a desk with the match, runs a thread that attends each role, and returns the closed desk with the history
-//! of the match.
+//! `referee` opens a desk with the match, runs a thread for each role that attends it, and returns the closed desk with
+//! the history of the match.
 #![tactic(auto)]
 
 mod closing;

@@ -12,10 +12,10 @@ use role_workers::AttendFault;
 /// The result of a refereed match.
 #[derive(Drop)]
 pub struct Refereed<G: Game> {
-    /// The desk's history, and its manager with the one match.
+    /// The desk's history, and its manager, which has the one match.
     pub closed: Closed<Manager<G>>,
-    /// How attending each role ended, in the order of the roles: with the number of messages that its player received, or
-    /// with an error.
+    /// The result of attending each role, in the order of the roles: the number of messages that the role's player
+    /// received, or an error.
     pub ends: Vec<Result<u64, AttendFault>>,
     ghost one_match: { length closed.object.matches ≡ 1 },
 }

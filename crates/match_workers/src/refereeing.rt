@@ -42,10 +42,10 @@ pub enum RefereeFault {
     /// The desk could not be closed, or the call that opens the match got no reply.
     #[error("the desk did not close")]
     Unclosed,
-    /// The desk's history was full before the match was opened, or while calls still waited at the end.
+    /// The desk's history was full before the match was opened, or at the end while calls were still waiting.
     #[error("the history is full")]
     Full,
-    /// Out of memory, or a thread cannot be created.
+    /// Out of memory, or a thread could not be created.
     #[error("out of memory")]
     Memory,
 }
@@ -99,7 +99,7 @@ fn role_names<G: Game>(alloc: Global, game: &G) -> Result<Texts, AllocError>
     Ok(Texts { items })
 }
 
-/// The borrowed data of a match that its players get.
+/// The match data that the players get, borrowed.
 fn brief_of<'r>(
     id: &'r Text,
     roles: &'r Texts,
@@ -118,8 +118,8 @@ fn brief_of<'r>(
     }
 }
 
-/// Opens a desk with only this game. The desk has a line for the calling thread, which holds the desk, and one for each
-/// role.
+/// Opens a desk that has only this game. The desk has a line for the calling thread, which holds the desk, and a line
+/// for each role.
 fn open_desk<G: Game + Drop>(
     alloc: Global,
     game: G,
@@ -143,8 +143,8 @@ fn open_desk<G: Game + Drop>(
     Ok((DeskHolder { desk, line }, lines))
 }
 
-/// The call that opens a match of the manager's first game. The error is the manager's refusal of this call, or out of
-/// memory.
+/// The call that opens a match of the manager's first game. The error is the reason why the manager refuses this call,
+/// or out of memory.
 fn accepted_call<G: Game>(
     alloc: Global,
     manager: &Manager<G>,
@@ -161,7 +161,7 @@ fn accepted_call<G: Game>(
     }
 }
 
-/// Opens a match of the desk's only game. It first checks whether the manager refuses the call, because no contract says
+/// Opens a match of the desk's only game. Checks first whether the manager refuses the call, because no contract says
 /// what a reply over a ring means before the desk is closed.
 fn open_match<G: Game + Drop>(
     alloc: Global,
@@ -184,8 +184,8 @@ fn open_match<G: Game + Drop>(
     }
 }
 
-/// Referees a match of the game between these players to its end, as `referee` does, with borrowed rules. The players come
-/// back in the order of the roles. Each player received the messages of its role, and nothing after them.
+/// Referees a match of the game between these players to its end, as `referee` does, with borrowed rules. Returns the
+/// players in the order of the roles. Each player received the messages of its role, and nothing after them.
 pub fn referee_shared<G, P, R>(
     rt: &R,
     alloc: Global,
@@ -237,16 +237,16 @@ where
 
 /// Referees a match of the game between these players to its end. There is one player for each name in the setup.
 ///
-/// It opens a desk with only this game, a line for the calling thread, and a line for each role. The calling thread opens
-/// the match. Then a separate thread attends each role, in at most `tries` tries. These threads and the calling thread
-/// serve the desk. START contains these rules. At the end the desk is closed.
+/// This opens a desk with only this game, a line for the calling thread, and a line for each role. The calling thread
+/// opens the match. Then a separate thread attends each role, in at most `tries` tries. These threads and the calling
+/// thread serve the desk. START contains the given rules. At the end the desk is closed.
 ///
-/// The result is that of any closed desk of matches. Its history can be replayed: if a manager of the same game, without
-/// matches, gets these calls one by one on one thread, it gives every stored reply and becomes this manager. The history has
-/// as many calls as the lines made. The manager has exactly one match, of this game and with this setup. The match is
-/// lawful, and its recorded moves were legal. For each recorded move of a role that was not yet retired, the history took
-/// exactly one answer, and the move and its error are the judgement of this answer. For each player, the contract says which
-/// messages it received and how attending its role ended.
+/// The history of the closed desk can be replayed: if one thread makes its calls, one after another, on a manager that
+/// has the same game and no match, each call gets its stored reply, and the manager becomes the manager of the closed
+/// desk. The history has as many calls as the lines made. The manager has exactly one match, of this game and with this
+/// setup. The match is lawful, and its recorded moves were legal. For each recorded move of a role that was not yet
+/// retired, the desk accepted exactly one answer, and this answer determines the move and its error. For each player,
+/// the contract says which messages the player received and how attending its role ended.
 pub fn referee<G, P, R>(
     rt: &R,
     alloc: Global,

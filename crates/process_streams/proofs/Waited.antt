@@ -1,4 +1,4 @@
--- Reads and writes that are repeated after the stream would have blocked.
+-- Reads and writes that are tried again after the stream would have blocked.
 use Rattle.std.proofs.Common.{◌≡◌, ◌∙◌, ◌++◌, ℕ, List, Option, None, Some, subst, sym, take}
 use Rattle.std.proofs.KnownBytes.{Keeps-refl, Keeps-trans}
 use Rattle.std.specs.Prelude.{Result, Ok, Err}

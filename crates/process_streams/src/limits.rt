@@ -7,20 +7,20 @@ use std::rt::Files;
 use std::{fs, io, str};
 use whole_streams::read_to_end;
 
-/// Linux lists the limits of the process in this file.
+/// The file in which Linux lists the limits of the process.
 const LIMITS: &str = "/proc/self/limits";
 
 /// The largest number of bytes to read from this file.
 const MAX_LIMITS: usize = 65_536;
 
-/// The name of the limit of open file descriptors in `/proc/self/limits`.
+/// The name of the limit of open file descriptors, as `/proc/self/limits` has it.
 pub const DESCRIPTORS: &str = "Max open files";
 
-/// The name of the limit of a file's size in bytes.
+/// The name of the limit of a file's size in bytes, as `/proc/self/limits` has it.
 pub const FILE_SIZE: &str = "Max file size";
 
-/// The soft limit with this name in the text of `/proc/self/limits`, or `None` if the text does not have it or there is no
-/// limit.
+/// The soft limit with this name in the text of `/proc/self/limits`, or `None` if the text has no such name or there is
+/// no limit.
 pub fn limit_in(limits: &str, name: &str) -> Option<u64> {
     for line in limits.lines() {
         if let Some(rest) = line.strip_prefix(name) {
@@ -41,7 +41,7 @@ pub fn limit_of<F: Files>(files: &F, alloc: Global, name: &str) -> Option<u64> {
     }
 }
 
-/// Whether a file has reached its size limit. If so, writing one more byte would end the process by a signal.
+/// Whether a file has reached its size limit. If it has, writing one more byte would make a signal end the process.
 pub(crate) fn is_full(limit: u64, found: io::Result<Metadata>) -> bool {
     match found {
         Ok(found) => found.is_file() && found.len() >= limit,

@@ -42,8 +42,8 @@ pub(crate) fn is_torn<F: Read + Seek>(file: &mut F, length: u64) -> io::Result<b
     Ok(last[0] != b'\n')
 }
 
-/// Opens the log file at this path for appending, and creates it if it does not exist. If the last line of the file has
-/// no line feed, ends that line.
+/// Opens the log file at this path for appending, and creates the file if it does not exist. If the last line of the
+/// file has no line feed, appends one.
 pub fn open_log<R: Files>(
     files: &R,
     path: &str,
@@ -55,7 +55,7 @@ pub fn open_log<R: Files>(
     let found = file.metadata()?;
     let mut log = LogFile { file, limit };
     if found.is_file() && found.len() > 0 {
-        // If the file cannot be read, its last line is assumed to be complete.
+        // If the file cannot be read, this assumes that its last line is complete.
         if let Ok(mut file) = File::open(files, path) {
             if is_torn(&mut file, found.len()).unwrap_or(false) {
                 let _ = log.write(b"\n");

@@ -21,15 +21,15 @@ fn held(rt: &HostRuntime, stream: BorrowedFd<'_>) -> io::Result<()> {
             Ok(socket) => socket,
             Err(_) => OwnedFd::from(fs::open(rt, "/")?),
         };
-        // The descriptor is never closed.
+        // The program never closes the descriptor.
         let _number = placeholder.into_raw_fd();
     }
     Ok(())
 }
 
-/// Takes the descriptor numbers of closed standard streams until the program ends. Otherwise a connection to a player
-/// would get one of these numbers, and the player would get the text that is written to the stream. Open streams cost no
-/// descriptor. Returns an error if a stream is closed and no placeholder can be opened.
+/// Occupies the descriptor numbers of closed standard streams until the program ends. Otherwise a connection to a
+/// player would get one of these numbers, and the player would receive the text that is written to the stream. Open
+/// streams cost no descriptor. Returns an error if a stream is closed and no placeholder can be opened.
 pub fn hold_closed(
     rt: &HostRuntime,
     input: BorrowedFd<'_>,

@@ -15,7 +15,7 @@ use std::{fs, io};
 /// The number of bytes to read at once.
 const PIECE: usize = 16_384;
 
-/// The limit of N in the name `FILE.torn.N`.
+/// The largest N in the name `FILE.torn.N`.
 const MOST_TORN: usize = 1_000;
 
 /// Why records cannot be appended to a file.
@@ -58,7 +58,8 @@ fn is_same(one: &Metadata, other: &Metadata) -> bool {
     one.dev() == other.dev() && one.ino() == other.ino()
 }
 
-/// The length in bytes of the file that a path names now. Returns an error if that is not the file that was opened.
+/// The length in bytes of the file that the path names now. Returns an error if that is another file than the opened
+/// one.
 fn length_of(opened: &Metadata, named: io::Result<Metadata>) -> io::Result<u64> {
     match named {
         Ok(named) if is_same(&named, opened) => Ok(named.len()),
@@ -80,8 +81,9 @@ pub enum RecordsState {
     Grown,
 }
 
-/// A file to which records are appended. When a write returns, its bytes are on the disk, and the path still named the file after the
-/// write. If another program has appended to the file and has left its last line incomplete, a write ends that line first.
+/// A file to which records are appended. After a successful write, the bytes are on the disk, and the path still named
+/// this file. If another program has appended to the file and left its last line incomplete, a write first ends that
+/// line.
 #[derive(Drop)]
 pub struct RecordsFile<'a, R, F> {
     files: &'a R,
@@ -112,7 +114,7 @@ impl<R: Files, F> RecordsFile<'_, R, F> {
         }
     }
 
-    /// Ends the last line of the file after another program has changed the file to this length. Returns an error if the
+    /// Ends the file's last line, after another program has changed the file to this length. Returns an error if the
     /// file is shorter than before.
     fn end_line(&self, length: u64) -> io::Result<()> {
         if length < self.length {
@@ -141,7 +143,7 @@ impl<R: Files, F: Write + OpenFile> Write for RecordsFile<'_, R, F> {
             begin = self.length_now()?;
         }
         if let Some(limit) = self.limit {
-            // Writing one more byte would end the process by a signal.
+            // Writing one more byte would make a signal end the process.
             if begin >= limit {
                 return Err(Error::from(ErrorKind::FileTooLarge));
             }
@@ -170,8 +172,8 @@ pub fn is_one_file<F: Files>(files: &F, path: &str, other: &str) -> bool {
     }
 }
 
-/// Whether a newly opened file is empty or begins with `{`. A byte order mark or white space before the brace is refused, because readers
-/// of records would not accept the line.
+/// Whether a newly opened file is empty or begins with `{`. This refuses a byte order mark or white space before the
+/// brace, because readers of records would not accept such a line.
 fn may_hold_records<F: Read>(file: &mut F) -> io::Result<bool>
     ensures { IfOk result (λ may. IfSome (F.remaining file.old) (λ text. may ≡ may_hold_records text)) }
 {
@@ -222,7 +224,8 @@ fn new_beside<F: Files>(files: &F, alloc: Global, path: &str) -> io::Result<(Str
     Err(Error::from(ErrorKind::AlreadyExists))
 }
 
-/// Moves the bytes of a file after the first `whole` ones to another file. The copy is on the disk before the file is cut.
+/// Moves the bytes of a file after the first `whole` ones to another file. The copy is on the disk before this cuts the
+/// file.
 fn move_rest<F: Read + Write + Seek + OpenFile>(
     file: &mut F,
     torn: &mut F,
@@ -260,8 +263,8 @@ fn line_start<F: Read + Seek>(file: &mut F, number: u64) -> io::Result<u64> {
     Err(Error::from(ErrorKind::UnexpectedEof))
 }
 
-/// Moves the bytes of a file after the first `whole` ones to a new file next to it, and returns the name of that file. If the copy fails,
-/// the new file is removed.
+/// Moves the bytes of a file after the first `whole` ones to a new file next to it. Returns the name of the new file.
+/// If the copy fails, removes the new file.
 fn move_beside<F: Files>(
     files: &F,
     alloc: Global,
@@ -279,9 +282,9 @@ fn move_beside<F: Files>(
 }
 
 impl<'a, R: Files> RecordsFile<'a, R, <R as Files>::File> {
-    /// Cuts off the incomplete end of the file, if there is one, and moves it to a new file. Returns the name of that
-    /// file. The end begins with the line number `first`, counted from 1. If `first` is `None`, the end is a last line
-    /// without its line feed.
+    /// Cuts off the incomplete end of the file, if there is one, and moves it to a new file. Returns the name of the
+    /// new file. The end begins with the line number `first`, counted from 1. If `first` is `None`, the end is a last
+    /// line without a line feed.
     pub fn mend(
         &mut self,
         alloc: Global,
@@ -321,8 +324,8 @@ fn is_special<F: Files>(files: &F, path: &str) -> bool {
     }
 }
 
-/// Opens the file at this path for appending, and creates it if it does not exist. The file stays locked until it is
-/// closed. A file that does not begin like a record is refused and left unchanged.
+/// Opens the file at this path for appending, and creates the file if it does not exist. The file stays locked until it
+/// is closed. Refuses a file that does not begin as a record does, and leaves it unchanged.
 pub fn open_records<'a, R: LockedFiles>(
     files: &'a R,
     path: &'a str,

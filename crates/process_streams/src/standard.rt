@@ -7,18 +7,18 @@ use std::sync::Wait;
 use std::time::{Clock, Duration};
 use std::{fs, thread};
 
-/// Linux shows the files of the standard streams under these names.
+/// The names under which Linux shows the files of the standard streams.
 pub const INPUT: &str = "/proc/self/fd/0";
 
 pub const OUTPUT: &str = "/proc/self/fd/1";
 
 pub const ERRORS: &str = "/proc/self/fd/2";
 
-/// The pause, in milliseconds, before a non-blocking stream is tried again.
+/// How many milliseconds to pause before a non-blocking stream is tried again.
 const REST: u64 = 5;
 
-/// A standard stream. If it would block, reads and writes pause and try again as often as needed, because the other end
-/// may take any length of time.
+/// A standard stream. While the stream would block, reads and writes pause and try again, as often as needed, because
+/// the other end may take any length of time.
 #[derive(Drop)]
 pub struct Standard<'a, R, S> {
     rt: &'a R,

@@ -15,7 +15,7 @@ use Rattle.role_workers.specs.AttendFaults.{attend_fault, next_fault}
 use Rattle.role_workers.specs.Attending.{CallStops, not_made, without_reply, at_reply, StopsAmid, at_the_last, at_a_call, for_memory}
 use Rattle.role_workers.proofs.Tellings.{told_with-nil, keeps-nil, told_after}
 
--- the events up to the point at which a worker stopped, with some reply as the last one
+-- the worker stopped with this error during these events, for some reply as the last event
 pub record StopsIn (whole : Reply → List Event) (fault_at : Reply → Option AttendFault) (fault : AttendFault) (before after : Telling) : Type 0 where
   pub reply : Reply
   pub events : List Event

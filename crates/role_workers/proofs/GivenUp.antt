@@ -50,7 +50,7 @@ module _ {W : Type 0} (w : Wire.Ghosts W Call Reply) where
   shown_aborting it first then last aborted asked =
       told_after (shown first) (shown then) (shown last) (makes (Abort it.of.brief.now.id) ∷ takes it.aborted ∷ []) (asking it.of.brief.now it.of.role it.due) aborted asked
 
-  -- a role without a message due
+  -- a role to which no message is due
   pub gave_up : (of : Unattended) (aborted due : Reply) (first then last : W) → Tells (shown first) (shown then) (makes (Abort of.brief.now.id) ∷ takes aborted ∷ [])
       → Tells (shown then) (shown last) (asking of.brief.now of.role due) → due_round due ≡ None → AreGivenUp w (of ∷ []) first last
   gave_up of aborted due first then last abort next none =
@@ -58,7 +58,7 @@ module _ {W : Type 0} (w : Wire.Ghosts W Call Reply) where
       one_given_up it first last [] (sym (ap (λ o. answering of.brief.now of.role o due) none))
       (subst (Tells (shown first) (shown last)) (sym (append-nil (aborting it))) (shown_aborting it first then last abort next))
 
-  -- a role with a message due
+  -- a role to which a message is due
   pub gave_up_due : (of : Unattended) (aborted due answered : Reply) (round : ℕ) (first then asked last : W) → Tells (shown first) (shown then) (makes (Abort of.brief.now.id) ∷ takes aborted ∷ [])
       → Tells (shown then) (shown asked) (asking of.brief.now of.role due) → due_round due ≡ Some round
       → Tells (shown asked) (shown last) (makes (answer_call of.brief.now.id of.role round Broken) ∷ takes answered ∷ []) → AreGivenUp w (of ∷ []) first last

@@ -36,7 +36,7 @@ told_message : (message : Handed) (cs : Option (List Call)) (rs : Option (List R
     → MayKeep ms ms' (message ∷ []) → Tells (telling cs rs ms) (telling cs rs ms') (hands message ∷ [])
 told_message message cs rs ms ms' m = record { calls = told_with-nil cs; replies = told_with-nil rs; messages = m }
 
--- there was no memory for the message, or for it in one piece
+-- there was no memory for the message, or for the message in one piece
 pub nothing_handed : (brief : BriefValue) (role round : ℕ) (owed : Owed) (fault : AttendFault) (before after : Telling) → fault ≡ Memory → after ≡ before
     → (answer : Answer) × (reply : Reply) × (events : List Event) × StopsAmid (handing_over brief role round owed answer reply) (answer_fault reply) fault events × Tells before after events
 nothing_handed brief role round owed fault before after is same =

@@ -1,4 +1,4 @@
--- The messages that the replies to a worker owe.
+-- The messages that are owed according to the replies to a worker.
 use Rattle.std.proofs.Common.{◌≡◌, ℕ, true, List, [], ◌∷◌, ◌++◌, map, All, None, is_none, refl, ap, sym, subst, ◌∙◌, append-nil}
 use Rattle.std.specs.List.{filter_map}
 use Rattle.std.proofs.lemmas.List.{map-append}
@@ -34,7 +34,7 @@ owed_in events = filter_map owed_of (filter_map reply_in events)
 owed_in-append : (xs ys : List Event) → owed_in (xs ++ ys) ≡ owed_in xs ++ owed_in ys
 owed_in-append xs ys = ap (filter_map owed_of) (filter_map-append reply_in xs ys) ∙ filter_map-append owed_of (filter_map reply_in xs) (filter_map reply_in ys)
 
--- what each message has in common with what was owed
+-- a value that a sent message has in common with the message that was owed
 module _ {X : Type 0} (brief : BriefValue) (role : ℕ) (of_message : Handed → X) (of_owed : Owed → X) (same : (owed : Owed) (answer : Answer) → of_message (message_of brief role owed answer) ≡ of_owed owed) where
   step_owed : (step : Step) → goes_on step ≡ true → map of_message (filter_map message_in (events_of brief role step)) ≡ map of_owed (owed_in (events_of brief role step))
   step_owed (rests round) goes = refl

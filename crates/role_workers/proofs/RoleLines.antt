@@ -68,7 +68,7 @@ module _ {P W : Type 0} (w : Wire.Ghosts W Call Reply) (p : Player.Ghosts P) (wi
         of_line = subst (λ l. IsFinishedOf l end) line found.2;
       }
 
-  -- there are as many lines as workers
+  -- there is a line for each worker
   line_count : length lines ≡ length attended
   line_count = finished.one_each ∙ length-map attended (λ (a : Attended P W). line_in a.wire)
 

@@ -1,4 +1,4 @@
--- What is shown grows with each event.
+-- Each event adds to what the wire and the player show.
 use Rattle.std.proofs.Common.{◌≡◌, List, [], ◌++◌, Option, None, Some, inl, inr, refl, ap, sym, subst, ◌∙◌, append_assoc, append-nil}
 use Rattle.std.specs.List.{filter_map}
 use Rattle.std.proofs.lemmas.List.Elements.{filter_map-append}
@@ -29,7 +29,7 @@ keeps-append a b c xs ys one (inr lost) = inr lost
 keeps-append a b c xs ys (inl kept) (inl more) = inl (more ∙ ap (λ t. told_with t ys) kept ∙ told_with-append a xs ys)
 keeps-append a b c xs ys (inr lost) (inl more) = inr (more ∙ ap (λ t. told_with t ys) lost)
 
--- a player that still shows its messages shows all of them
+-- if a player still shows its messages, it shows all of them
 pub kept_all : (before after : Option (List Handed)) (old new messages : List Handed) → before ≡ Some old → after ≡ Some new → MayKeep before after messages → new ≡ old ++ messages
 kept_all before after old new messages is_old is_new (inl kept) = let more : told_with before messages ≡ Some (old ++ messages) = ap (λ t. told_with t messages) is_old in cc
 kept_all before after old new messages is_old is_new (inr lost) = absurd cc

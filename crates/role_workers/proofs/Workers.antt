@@ -59,7 +59,7 @@ goes-more brief role tried before now next messages more last goes on told count
       ∙ sym (ap (λ events. length (filter_map message_in events)) (events_of_all-push brief role goes.steps last));
 }
 
--- what is shown after the worker has asked what is due
+-- what the wire and the player show after the worker has asked what is due
 told_due : (brief : BriefValue) (role : ℕ) (due due' : Due) (cs cs' : Option (List Call)) (rs rs' : Option (List Reply)) (ms : Option (List Handed))
     → due ≡ due' → cs' ≡ told_with cs (Next brief.id role ∷ []) → rs' ≡ told_with rs (IsDue due ∷ []) → Tells (telling cs rs ms) (telling cs' rs' ms) (asking brief role (IsDue due'))
 told_due brief role due due' cs cs' rs rs' ms is c r = told_reply (Next brief.id role) (IsDue due') cs cs' rs rs' ms c (r ∙ ap (λ x. told_with rs (IsDue x ∷ [])) is)
@@ -103,7 +103,7 @@ stops-in brief role tried tries before now next messages step fault events goes 
   why = in_a_step (omega (arith, goes.tries)) step stops;
 }
 
--- its tries are used up
+-- the worker has no tries left
 pub stops-out_of_tries : (brief : BriefValue) (role tried tries : ℕ) (before now : Telling) (messages : ℕ) → Goes brief role tried before now messages → tried ≡ tries → StopsEarly brief role tries before now Stalled
 stops-out_of_tries brief role tried tries before now messages goes used = record {
   steps = goes.steps;
@@ -139,7 +139,7 @@ stops-handing brief role tried tries round owed due before cs cs' rs rs' ms next
     (stops_behind asked (handing_over brief role round owed answer reply) (answer_fault reply) fault events stops)
     (told_after (telling cs rs ms) (telling cs' rs' ms) next asked events (told_due brief role due (Owe round owed) cs cs' rs rs' ms is c r) told)
 
--- a player that still shows its messages shows as many more as were counted
+-- if a player still shows its messages, it shows as many new messages as the worker counted
 pub messages_told : MessagesAreCounted
 messages_told brief role tries before after messages old new attends shown_before shown =
     let events = events_of_all brief role attends.steps in

@@ -8,21 +8,21 @@ use Rattle.desk_calls.specs.declared.call.Refusal.TheVariants.{Over, Stale, Twic
 use Rattle.role_workers.specs.declared.attend_fault.AttendFault.{AttendFault}
 use Rattle.role_workers.specs.declared.attend_fault.AttendFault.TheVariants.{Refused as StopsRefused, Stalled as StopsStalled, Full as StopsFull, Memory as StopsMemory}
 
--- the error of a worker for an error of its wire
+-- the error of a worker whose wire has this error
 abbrev pub attend_fault : AskFault → AttendFault
 attend_fault Full = StopsFull
 attend_fault Memory = StopsMemory
 attend_fault Stalled = StopsStalled
 
--- The error at which a worker stops if `Next` gets this reply: none if the reply says what is due, the reason if it refuses, and
--- `Stalled` for any other reply.
+-- The error with which a worker stops after this reply to `Next`. There is none if the reply says what is due. If the reply is a refusal,
+-- the error has its reason. For any other reply the error is `Stalled`.
 abbrev pub next_fault : Reply → Option AttendFault
 next_fault (Due due) = None
 next_fault (Refused reason) = Some (StopsRefused reason)
 next_fault _ = Some StopsStalled
 
--- The error at which a worker stops if its player's answer gets this reply: none if the desk takes the answer, or refuses it because it
--- is late, repeated or after the end.
+-- The error with which a worker stops after this reply to its player's answer. There is none if the desk accepts the answer, or refuses it
+-- because it is late, repeated, or after the end.
 abbrev pub answer_fault : Reply → Option AttendFault
 answer_fault Taken = None
 answer_fault (Refused (Stale round)) = None

@@ -14,8 +14,8 @@ abbrev pub HasEnded : BriefValue → ℕ → ℕ → Telling → Telling → Res
 HasEnded brief role tries before after (Ok messages) = Attends brief role tries before after messages
 HasEnded brief role tries before after (Err fault) = StopsEarly brief role tries before after fault
 
--- A worker attended the role with this player over this wire, and this was the result. The wire still belongs to the same line, and
--- the wire and the player show the events of attending.
+-- A worker attended the role with this player over this wire, with this result. The wire still belongs to the same line, and the wire and
+-- the player show the events of attending.
 pub record IsAttended {P W : Type 0} (w : Wire.Ghosts W Call Reply) (p : Player.Ghosts P) (brief : BriefValue) (role tries : ℕ) (player player' : P) (wire wire' : W) (end : Result ℕ AttendFault) : Type 0 where
   pub line : w.same_line wire wire'
   pub ended : HasEnded brief role tries

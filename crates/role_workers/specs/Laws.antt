@@ -34,7 +34,7 @@ pub record AreHandedOver (brief : BriefValue) (role count : ℕ) (replies : List
   -- the player shows them, unless it no longer shows any messages
   pub kept : MayKeep handed handed' messages
 
--- a worker that found the end sent each message that a reply owed, once and in order
+-- a worker that found the end sent each message that the replies owed, once and in order
 abbrev pub OwedAreHandedOver : Type 0
 OwedAreHandedOver = (brief : BriefValue) (role tries count : ℕ) (calls calls' : Option (List Call)) (replies : List Reply) (handed handed' : Option (List Handed))
     → HasEnded brief role tries (telling calls (Some []) handed) (telling calls' (Some replies) handed') (Ok count)

@@ -1,4 +1,4 @@
--- The calls of a worker, and what their replies owe.
+-- The calls of a worker, and the messages that their replies owe.
 use Rattle.std.specs.Prelude.{◌≡◌, ℕ, List, Option, Some, None}
 use Rattle.desk_calls.specs.declared.due.Owed.{Owed}
 use Rattle.desk_calls.specs.declared.due.Due.TheVariants.{Owe}
@@ -7,7 +7,7 @@ use Rattle.desk_calls.specs.declared.call.Call.TheVariants.{Next, Submit, Miss}
 use Rattle.desk_calls.specs.declared.call.Reply.{Reply}
 use Rattle.desk_calls.specs.declared.call.Reply.TheVariants.{Due}
 
--- the call asks what the match with this id owes to this role, or gives the role's answer
+-- the call asks what the match with this id owes to this role, or it has the role's answer
 abbrev pub IsRoleCall : List ℕ → ℕ → Call → Type 0
 IsRoleCall id role (Next match asked) = (match ≡ id) × (asked ≡ role)
 IsRoleCall id role (Submit match answering round text) = (match ≡ id) × (answering ≡ role)

@@ -34,7 +34,7 @@ module _ {C R : Type 0} where
   abbrev pub IsFinishedAt : List (LineValue C R) → ℕ → LineValue C R → Type 0
   IsFinishedAt lines k end = (line : LineValue C R) × (slice_get lines k ≡ Some line) × IsFinishedOf line end
 
-  -- the same for each index
+  -- the end of each of these lines, at the same index
   pub record AreFinishedOf (lines : List (LineValue C R)) (ends : List (LineValue C R)) : Type 0 where
     pub one_each : length ends ≡ length lines
     pub each : (k : ℕ) (end : LineValue C R) → slice_get ends k ≡ Some end → IsFinishedAt lines k end
@@ -48,7 +48,7 @@ module _ {P : Type 0} (handed : P → Option (List Handed)) (brief : BriefValue)
     -- the player afterwards
     pub player_left : P
     pub is_left : slice_get left role ≡ Some player_left
-    -- the replies that the worker got
+    -- the replies to the worker
     pub replies : List Reply
     pub are_first : IsPrefix replies (taken_replies line)
     pub ended : HasEnded brief role tries

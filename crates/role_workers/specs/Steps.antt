@@ -25,7 +25,7 @@ answer_call id role round Broken = Miss id role round true
 abbrev pub asking : BriefValue → ℕ → Reply → List Event
 asking brief role reply = makes (Next brief.id role) ∷ takes reply ∷ []
 
--- the worker sends the owed message once; then one call gives the desk the answer for the message's round, and this reply comes
+-- the worker sends the owed message once; then it gives the desk the answer in one call for the message's round, and this reply comes
 abbrev pub handing_over : BriefValue → ℕ → ℕ → Owed → Answer → Reply → List Event
 handing_over brief role round owed answer reply =
     hands (record { seconds = seconds_for brief owed; body = message_text brief role owed; answer = answer })

@@ -11,11 +11,11 @@ use thiserror::Error;
 /// Why a worker stops attending its role before the match is over.
 #[derive(Clone, Copy, Debug, PartialEq, Eq, Error)]
 pub enum AttendFault {
-    /// The desk refused a call, for this reason. A worker ignores refusals of answers that come late, a second time, or
+    /// The desk refused a call, for this reason. A worker ignores the refusal of an answer that is late, repeated, or
     /// after the end.
     #[error("refused: {0}")]
     Refused(Refusal),
-    /// The tries are used up, the wire gave up, or the reply does not fit its call.
+    /// No tries are left, the wire gave up, or the reply does not fit the call.
     #[error("no reply came")]
     Stalled,
     /// The desk's history is full.

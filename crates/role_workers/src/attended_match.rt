@@ -1,4 +1,4 @@
-//! Attends the roles of a match, each over one line of the match's desk.
+//! Attends the roles of a match, each role over one line of the match's desk.
 ghost use Rattle.std.specs.Prelude.{◌≡◌, ◌+◌, Some, map, min, IfOk, length};
 ghost use Rattle.call_history.specs.RingLines.{SamePorts, AreEndsOf, IsLineOf};
 ghost use Rattle.role_workers.specs.RoleLines.{AreSeatLines, HasFinished, AreLeftLines};
@@ -17,8 +17,8 @@ use std::alloc::{AllocError, Global};
 use std::sync::Wait;
 use std::thread::Threads;
 
-/// How the roles of a match are attended: the data of START, the players in the order of the roles, and the largest number
-/// of questions for each role.
+/// What to attend: the data of START, the players in the order of the roles, and how many times the worker of a role
+/// may ask what the match owes to the role.
 #[derive(Drop)]
 pub struct AttendancePlan<'r, P> {
     pub brief: SharedBrief<'r>,
@@ -26,7 +26,8 @@ pub struct AttendancePlan<'r, P> {
     pub tries: u64,
 }
 
-/// A match that is over: its desk, the ends of all lines, how attending each role ended, and the players.
+/// The result of attending all roles of a match: the desk, the ends of all lines, the result for each role, and the
+/// players.
 #[derive(Drop)]
 pub struct AttendedMatch<O: Object, P> {
     pub desk: RingDesk<O>,
@@ -52,8 +53,8 @@ where
     Ok(wires)
 }
 
-/// Attends each role of a match over its line of the desk. The desk is under a lock meanwhile. Afterwards no line posts
-/// another call.
+/// Attends each role of a match over its line of the desk. A lock protects the desk meanwhile. Afterwards, the lines
+/// post no more calls.
 pub fn attend_match<N, O, P, R>(
     rt: &R,
     alloc: Global,
@@ -85,7 +86,7 @@ where
         players,
         tries,
     } = plan;
-    // The memory for the results is allocated before the first thread starts.
+    // This allocates the memory for the results before the first thread starts.
     let count = others.len();
     let mut lines = Vec::with_capacity(alloc, count + 1)?;
     let mut ends = Vec::with_capacity(alloc, count)?;

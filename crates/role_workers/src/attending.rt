@@ -73,8 +73,8 @@ pub(crate) fn answer_call(
     })
 }
 
-/// The error of a worker if its player's answer gets this reply. A worker ignores refusals of answers that come late, a
-/// second time, or after the end.
+/// The error with which a worker stops after this reply to its player's answer. A worker ignores the refusal of an
+/// answer that is late, repeated, or after the end.
 fn answer_fault(reply: &Reply) -> Option<AttendFault>
     ensures { result ≡ answer_fault reply.now }
 {
@@ -109,7 +109,7 @@ fn give_back<W: Wire<Call = Call, Reply = Reply>>(
     }
 }
 
-/// The seconds that the player has for a message.
+/// The seconds that the player has to answer a message.
 fn seconds_for(brief: &SharedBrief<'_>, owed: &Owed) -> u32
     ensures { result ≡ seconds_for brief.now owed.now }
 {
@@ -119,7 +119,7 @@ fn seconds_for(brief: &SharedBrief<'_>, owed: &Owed) -> u32
     }
 }
 
-/// Sends the player the owed message, and gives the desk the answer.
+/// Sends the player the owed message, and gives the desk the player's answer.
 fn hand_over<W: Wire<Call = Call, Reply = Reply>, P: Player>(
     alloc: Global,
     wire: &mut W,
@@ -171,11 +171,11 @@ pub fn attend_shared<W: Wire<Call = Call, Reply = Reply>, P: Player>(
     Err(AttendFault::Stalled)
 }
 
-/// Attends one role of a match to its end: asks the desk what it owes to the role, sends each owed message to the player
-/// once, and gives the desk the answer for its round. Returns the number of messages that it sent.
+/// Attends one role of a match to its end: asks the desk what it owes to the role, sends each owed message to the
+/// player once, and gives the desk the answer for its round. Returns the number of messages that it sent.
 ///
-/// Each question is one try, even if the player must then wait. After the last try this stops with `Stalled`. An error
-/// does not undo anything that was done before it.
+/// Each question to the desk uses up one try, even if the player must then wait. After the last try, this stops with
+/// `Stalled`. Whatever was done before an error stays done.
 pub fn attend<W: Wire<Call = Call, Reply = Reply>, P: Player>(
     alloc: Global,
     wire: &mut W,

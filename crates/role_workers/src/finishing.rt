@@ -24,8 +24,8 @@ pub fn finish_line<O: Object>(line: RingLine<O>) -> LineEnd<O>
     end
 }
 
-/// Finishes the lines of the attended roles. Adds the lines, the results of attending, and the players to these lists, in
-/// the order of the roles. The lists are empty and have enough memory.
+/// Finishes the lines of the attended roles. Adds the lines, the results of attending, and the players to the given
+/// lists, in the order of the roles. The lists are empty, and the caller has allocated their memory.
 pub fn finish_all<O, N, P>(
     attended: Vec<Attended<P, ServedWire<'_, O, N>>>,
     lines: &mut Vec<LineEnd<O>>,

@@ -12,7 +12,7 @@ pub struct DeskHolder<O: Object> {
     pub line: RingLine<O>,
 }
 
-/// Makes a call over the holder's line. If the desk cannot make the call, it keeps the call.
+/// Makes a call over the holder's line. If the desk cannot make the call, the desk keeps it for its next round.
 pub fn ask_own<O: Object>(holder: &mut DeskHolder<O>, call: O::Call) -> Result<O::Reply, AskFault>
     ensures line { SameLine holder.old.line holder.new.line }
     ensures ports { SamePorts holder.old.desk.ports holder.new.desk.ports }
@@ -24,7 +24,7 @@ pub fn ask_own<O: Object>(holder: &mut DeskHolder<O>, call: O::Call) -> Result<O
     if holder.line.post(call).is_err() {
         return Err(AskFault::Stalled);
     }
-    // The first line is served in one round, even if the round stops at a later line.
+    // A round begins with the first line, so one round serves that line even if it stops at a later one.
     let served = holder.desk.round();
     match holder.line.take() {
         Some(reply) => Ok(reply),
@@ -32,7 +32,7 @@ pub fn ask_own<O: Object>(holder: &mut DeskHolder<O>, call: O::Call) -> Result<O
     }
 }
 
-/// The error of a round that brought no reply.
+/// The error for a round that brought no reply.
 fn fault_of(served: Result<u64, DeskFault>) -> AskFault
     ensures { MatchResult served (λ _. result ≡ AskFault.Stalled) (λ fault. result ≡ ask_fault fault.cause) }
 {

@@ -2,8 +2,8 @@
 ghost use Rattle.role_workers.specs.Attending.{MessagesAreCounted};
 ghost use Rattle.role_workers.specs.Laws.{CallsAreOfTheRole, CallsHaveReplies, OwedAreHandedOver};
 
-/// If a worker found the end of the match, and the player still shows its messages, the player shows as many new ones as
-/// the worker counted.
+/// If a worker found the end of the match, and the player still shows its messages, the player shows as many new
+/// messages as the worker counted.
 pub fn messages_are_counted()
     ensures { MessagesAreCounted }
 {}
@@ -18,8 +18,8 @@ pub fn calls_have_replies()
     ensures { CallsHaveReplies }
 {}
 
-/// A worker that found the end sent each message that a reply owed, once and in order. The last reply said that the match is
-/// over.
+/// A worker that found the end sent each message that the replies owed, once and in order. The last reply said that the
+/// match is over.
 pub fn owed_are_handed_over()
     ensures { OwedAreHandedOver }
 {}

@@ -1,8 +1,8 @@
-//! A worker for each role of a match. It attends the role in a separate thread.
+//! Runs a worker for each role of a match, in a separate thread.
 //!
-//! `attend` asks the desk over a wire what it owes to the role, sends that to the role's player, and gives the desk the
-//! answer. `attend_match` runs one thread for each role; together, the threads serve one desk over rings. The calls and
-//! replies are those of `desk_calls`, whatever the desk does with them.
+//! `attend` repeatedly asks the desk over a wire what it owes to the role, sends the owed message to the role's player,
+//! and gives the desk the answer. `attend_match` runs one thread for each role; together, the threads serve one desk
+//! over rings. The calls and replies are those of `desk_calls`, but the desk may do anything with them.
 #![tactic(auto)]
 
 mod attend_fault;

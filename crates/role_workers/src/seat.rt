@@ -1,4 +1,4 @@
-//! A role that will be attended.
+//! A role to attend.
 ghost use Rattle.std.specs.Prelude.{◌<◌, length};
 
 use crate::attend_fault::AttendFault;

@@ -1,4 +1,4 @@
-//! Attends roles of matches, each over its wire in a separate thread.
+//! Attends roles of matches, each role over its wire in a separate thread.
 ghost use Rattle.std.specs.Prelude.{◌≡◌, ◌<◌, ◌≤◌, ℕ, [], ◌∷◌, Some, length, map, min, slice_get, IfOk, OnOk};
 ghost use Rattle.role_workers.specs.Attendances.{IsAttended};
 ghost use Rattle.role_workers.specs.Seats.{AreSeatsOf, IsLeftOf, AreLeftBy};
@@ -20,7 +20,7 @@ use std::sync::Wait;
 use std::thread;
 use std::thread::{Promise, PromisedHandle, Scope, Threads};
 
-/// What a seat's thread guarantees about its result.
+/// The guarantee of a seat's thread about its result.
 #[derive(Drop)]
 struct LeftBy<'a, P, W> {
     seat: Snapshot<Seat<'a, P, W>>,
@@ -34,14 +34,14 @@ impl<'a, P: Player, W: Wire<Call = Call, Reply = Reply>> Promise<Attended<P, W>>
     ghost kept_by = { λ p left. IsLeftOf W.Wire P.Player p.tries p.seat.value left };
 }
 
-/// A role of a match without a thread.
+/// A role without a thread, with the data of its match.
 #[derive(Clone, Copy)]
 struct Unattended<'a> {
     brief: &'a SharedBrief<'a>,
     role: usize,
 }
 
-/// Makes a seat for each role of the match. The roles, the wires and the players are taken in order.
+/// Makes a seat for each role of the match, from the roles, the wires and the players in order.
 pub fn seat_players<'a, P: Drop, W: Drop>(
     alloc: Global,
     brief: &'a SharedBrief<'a>,
@@ -71,8 +71,8 @@ pub fn seat_players<'a, P: Drop, W: Drop>(
     Ok(seats)
 }
 
-/// Attends the role of a seat over its wire, and then signals the end. If memory runs out, the thread stops the desk:
-/// the match cannot end without this role, and the other workers would ask until the history is full.
+/// Attends the role of a seat over its wire, and then signals that it has ended. If memory runs out, the thread stops
+/// the desk: the match cannot end without this role, and the other workers would keep asking until the history is full.
 fn attend_seat<P: Player + Drop, W: Wire<Call = Call, Reply = Reply>>(
     alloc: Global,
     seat: Seat<'_, P, W>,
@@ -122,7 +122,8 @@ fn due_round(reply: &Reply) -> Option<u64>
     }
 }
 
-/// Gives a role up: aborts its match and, if the desk owes the role a message, reports a broken connection as its answer.
+/// Gives up a role: aborts its match and, if the desk owes the role a message, reports a broken connection as the
+/// answer.
 fn give_up<W: Wire<Call = Call, Reply = Reply>>(
     alloc: Global,
     own: &mut W,
@@ -143,7 +144,7 @@ fn give_up<W: Wire<Call = Call, Reply = Reply>>(
     Ok(())
 }
 
-/// Gives these roles up. Then the match ends, and the threads of the other roles end too.
+/// Gives up these roles. This ends the match, so that the threads of the other roles end too.
 fn give_up_all<W: Wire<Call = Call, Reply = Reply>>(
     alloc: Global,
     own: &mut W,
@@ -157,7 +158,7 @@ fn give_up_all<W: Wire<Call = Call, Reply = Reply>>(
     Ok(())
 }
 
-/// Joins the threads of the seats, and adds their results to `attended`, which is empty and has enough memory.
+/// Joins the threads of the seats, and adds their results to `attended`, which is empty and has enough capacity.
 fn join_seats<'a, P: Player + Drop, W: Wire<Call = Call, Reply = Reply> + Drop, R: Threads>(
     rt: &R,
     handles: Vec<PromisedHandle<Attended<P, W>, LeftBy<'a, P, W>>>,
@@ -174,8 +175,8 @@ fn join_seats<'a, P: Player + Drop, W: Wire<Call = Call, Reply = Reply> + Drop, 
     Ok(attended)
 }
 
-/// For each seat, in order, starts a thread that attends the seat in at most `tries` tries. If a thread cannot be
-/// created, this starts no more threads.
+/// For each seat, in order, starts a thread that attends the seat in at most `tries` tries. Stops at the first thread
+/// that cannot be created.
 fn start_seats<'s, 'a: 's, E, P, W>(
     alloc: Global,
     scope: &'s Scope<'s, E>,
@@ -221,8 +222,8 @@ where
     Ok(handles)
 }
 
-/// Ends these threads if the other roles have no threads: gives those roles up over the calling thread's wire, and joins
-/// the threads. The results of the threads are dropped.
+/// Ends the running threads after a thread could not be created: gives up the other roles over the calling thread's
+/// wire, and joins the running threads. Drops their results.
 fn end_seats<O, N, W, P, R>(
     rt: &R,
     alloc: Global,
@@ -241,7 +242,7 @@ where
 {
     let given_up = give_up_all(alloc, own, others);
     if let Err(fault) = given_up {
-        // If giving up fails, the match never ends, so this stops the other workers.
+        // If giving up fails, the match never ends. So this stops the other workers.
         desk.stop(fault);
     }
     desk.serve_until(rt, handles.len() as u64);
@@ -252,11 +253,11 @@ where
 }
 
 /// Attends each seat in a separate thread, in at most `tries` tries. The calling thread also serves the desk until all
-/// these threads have ended. The calling thread's wire comes back with the results, which are in the order of the seats.
+/// these threads have ended. Returns the calling thread's wire and the results, in the order of the seats.
 ///
-/// If a thread cannot be created, no more are started. A match waits for all its roles, so this aborts the matches of the
-/// remaining seats over the calling thread's wire. When the running threads have ended, this returns an out-of-memory
-/// error.
+/// If a thread cannot be created, this starts no more threads. A match waits for all its roles, so this then aborts the
+/// matches of the remaining seats over the calling thread's wire. When the running threads have ended, this returns an
+/// out-of-memory error.
 pub fn attend_all<O, N, W, P, R>(
     rt: &R,
     alloc: Global,

@@ -7,7 +7,7 @@ use crate::shared_desk::{DeskBrand, SharedDesk};
 use call_history::{AskFault, Object, RingLine, Wire, back_off};
 use desk_calls::{Call, Reply};
 
-/// After this many checks for a reply, a wire gives up.
+/// A wire gives up after this many checks for a reply.
 const TURNS: u64 = 1_000_000_000;
 
 /// A line of a desk that any thread can serve. The line has at most one unfinished call, so its ring always has a slot
@@ -53,10 +53,10 @@ impl<'a, O: Object<Call = Call, Reply = Reply>, N: DeskBrand<O>> Wire for Served
 
     ghost same_line = { λ v w. SameLine v.line w.line };
 
-    /// Posts the call and takes one reply. This is the reply to the call if the line had taken as many replies as it had
-    /// posted calls. The wire stalls after `TURNS` checks without a reply, or if the desk has stopped. A stalled wire
-    /// does nothing more, but a call that it has posted stays posted. If the desk has stopped because memory ran out, the
-    /// error is `Memory`.
+    /// Posts the call and takes one reply. The reply belongs to this call if the line had taken as many replies as it
+    /// had posted calls before. The wire stalls after `TURNS` checks without a reply, or if the desk has stopped. A
+    /// stalled wire does nothing more, but a call that it has posted stays posted. If the desk has stopped because
+    /// memory ran out, the error is `Memory`.
     fn ask(&mut self, call: Call) -> Result<Reply, AskFault>
         ensures line { SameLine self.old.line self.new.line }
         ensures call { OnOk result (Some (posted_calls self.new.line) ≡ told_with (Some (posted_calls self.old.line)) (call ∷ [])) }
@@ -93,8 +93,8 @@ impl<'a, O: Object<Call = Call, Reply = Reply>, N: DeskBrand<O>> Wire for Served
     ghost same_line_trans = { λ a b c ab bc. Prim.search rules };
 }
 
-/// Takes the reply that the line waits for. Until the reply comes, the thread serves rounds, or waits while another
-/// thread serves one. The thread gives up after `TURNS` checks, or when the desk has stopped.
+/// Takes the reply for which the line waits. Until the reply comes, the thread serves rounds, or waits while another
+/// thread serves one. It gives up after `TURNS` checks, or when the desk has stopped.
 fn take_served<O: Object<Call = Call, Reply = Reply>, N: DeskBrand<O>>(
     line: &mut RingLine<O>,
     desk: &SharedDesk<O, N>,

@@ -1,4 +1,5 @@
-//! A desk over rings under a lock. A thread that waits for a reply serves the lines itself, so no call changes threads.
+//! A desk over rings, under a lock. A thread that waits for a reply serves the lines itself, so no call moves to
+//! another thread.
 ghost use Rattle.std.specs.Prelude.{◌≡◌, Option, Some, MatchResult, length};
 ghost use Rattle.std.specs.Option.{ForSome};
 ghost use Rattle.call_history.specs.Rounds.{RingDeskValue, Visits};
@@ -16,14 +17,14 @@ use std::sync::atomic::{AtomicBool, Ordering};
 use std::sync::{Mutex, Wait};
 use std::time::Duration;
 
-/// The longest sleep, in milliseconds, of the thread that opened the desk. After this sleep, a call that could not be
-/// made is tried again.
+/// The longest sleep, in milliseconds, of the thread that opened the desk. After this time the thread tries again a
+/// call that could not be made.
 const LONGEST_SLEEP: u64 = 1_000;
 
-/// How many rounds in a row may lack memory for a call.
+/// How many consecutive rounds may run out of memory for a call.
 const MAX_SHORT_ROUNDS: u64 = 10_000;
 
-/// Which desk is under the lock. A contract cannot name a value under a lock, so each match has a type that names its
+/// Names the desk under the lock. A contract cannot name a value under a lock, so each match has a type that names its
 /// desk.
 pub trait DeskBrand<O> {
     ghost desk: { Option (RingDeskValue O Call Reply) };
@@ -35,18 +36,18 @@ impl<O> DeskBrand<O> for Brand {
     ghost desk = { None };
 }
 
-/// This desk after some rounds.
+/// The desk that `N` names, after some rounds.
 #[derive(Drop)]
 struct NamedDesk<O: Object<Call = Call, Reply = Reply>, N: DeskBrand<O>> {
     desk: RingDesk<O>,
-    /// How many more rounds in a row may lack memory for a call.
+    /// How many more consecutive rounds may run out of memory for a call.
     rounds_left: u64,
     of: PhantomData<N>,
     ghost same: { ForSome N.desk (λ first. IsDeskAfter O.opening first desk) },
 }
 
 impl<O: Object<Call = Call, Reply = Reply>, N: DeskBrand<O>> NamedDesk<O, N> {
-    /// Serves and counts a round. It visits all lines before the one at which it stops.
+    /// Serves a round and counts it. The round visits all lines before the one at which it stops.
     fn round(&mut self) -> Result<u64, DeskFault>
         ensures visits { MatchResult result
             (λ _. Visits self.old.desk.journal.history self.new.desk.journal.history self.old.desk.ports self.new.desk.ports (length self.old.desk.ports))
@@ -70,7 +71,7 @@ impl<O: Object<Call = Call, Reply = Reply>, N: DeskBrand<O>> NamedDesk<O, N> {
     }
 }
 
-/// After a round with this result: the number of further rounds in a row that may lack memory for a call.
+/// How many more consecutive rounds may run out of memory for a call, after a round with this result.
 fn rounds_left(before: u64, served: &Result<u64, DeskFault>) -> u64
     ensures { result ≡ rounds_left before served.now }
 {
@@ -109,10 +110,10 @@ impl<O: Object<Call = Call, Reply = Reply>, N: DeskBrand<O>> SharedDesk<O, N> {
         }
     }
 
-    /// Serves a round, unless another thread is serving one. Returns whether it served a complete round. If a call could
-    /// not be made, the next round tries it again, until the history is full or `MAX_SHORT_ROUNDS` rounds in a row had no
-    /// memory for a call. Then the desk stops, because the threads that wait for a reply would otherwise do nothing else
-    /// for minutes.
+    /// Serves a round, unless another thread is serving one. Returns whether it served a complete round. If a call
+    /// could not be made, the next round tries it again. If the history is full, or `MAX_SHORT_ROUNDS` consecutive
+    /// rounds ran out of memory for a call, the desk stops. Otherwise the threads that wait for a reply would do
+    /// nothing else for minutes.
     pub fn serve(&self) -> bool {
         let Some(mut named) = self.locked.try_lock() else {
             return false;
@@ -126,8 +127,8 @@ impl<O: Object<Call = Call, Reply = Reply>, N: DeskBrand<O>> SharedDesk<O, N> {
         served.is_ok()
     }
 
-    /// Ends all threads over this desk because of this error: each wire that waits for a reply, or makes another call,
-    /// stalls.
+    /// Ends all threads that use this desk, because of this error. Each wire that waits for a reply, or makes another
+    /// call, stalls.
     pub fn stop(&self, fault: AttendFault) {
         if fault == AttendFault::Memory {
             self.is_short.store(true, Ordering::SeqCst);
@@ -140,8 +141,8 @@ impl<O: Object<Call = Call, Reply = Reply>, N: DeskBrand<O>> SharedDesk<O, N> {
         self.is_short.load(Ordering::SeqCst)
     }
 
-    /// Whether the desk has stopped: a round found the history full, too many rounds in a row had no memory for a call,
-    /// or `stop` was called.
+    /// Whether the desk has stopped: a round found the history full, too many consecutive rounds ran out of memory for
+    /// a call, or `stop` was called.
     pub fn has_stopped(&self) -> bool {
         self.bell.has_stopped()
     }
@@ -151,8 +152,8 @@ impl<O: Object<Call = Call, Reply = Reply>, N: DeskBrand<O>> SharedDesk<O, N> {
         &self.bell
     }
 
-    /// Serves rounds until `workers` workers have ended. Workers serve their own calls, so this thread sleeps most of the
-    /// time, and the end of a worker wakes it.
+    /// Serves rounds until `workers` workers have ended. Workers serve their own calls, so this thread sleeps most of
+    /// the time. A worker wakes it when the worker ends.
     pub fn serve_until<R: Wait>(&self, rt: &R, workers: u64) {
         let mut pause = Pause::new(&self.bell, Duration::from_millis(LONGEST_SLEEP));
         for _ in rt.forever() {
@@ -164,7 +165,7 @@ impl<O: Object<Call = Call, Reply = Reply>, N: DeskBrand<O>> SharedDesk<O, N> {
         }
     }
 
-    /// Takes the desk out of the lock. No thread serves it any more.
+    /// Takes the desk out of the lock. After this, no thread serves the desk.
     pub fn into_desk(self) -> RingDesk<O>
         ensures { ForSome N.desk (λ first. IsDeskAfter O.opening first result) }
     {

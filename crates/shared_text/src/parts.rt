@@ -1,8 +1,8 @@
 //! The rest of a text in several parts.
 ghost use Rattle.std.specs.Prelude.{◌≡◌, ◌<◌, ◌≤◌, ◌++◌, ℕ, List, length, drop};
 
-/// The first part from `place` to its end, or, if `place` is after the first part, the second part from there. `place`
-/// counts the bytes of both parts.
+/// The text from `place` to the end of the part that contains `place`. `place` counts from the beginning of the first
+/// part.
 pub(crate) fn rest_of<'a>(first: &'a [u8], second: &'a [u8], place: usize) -> &'a [u8]
     requires { place ≤ length (first.now ++ second.now) }
     ensures front { (more : List ℕ) × (result.now ++ more ≡ drop place (first.now ++ second.now)) }
@@ -15,7 +15,7 @@ pub(crate) fn rest_of<'a>(first: &'a [u8], second: &'a [u8], place: usize) -> &'
     }
 }
 
-/// The same for three parts.
+/// Like `rest_of`, for three parts.
 pub(crate) fn rest_of_three<'a>(
     first: &'a [u8],
     second: &'a [u8],

@@ -8,8 +8,8 @@ use std::marker::Model;
 /// A shared part of at most this many bytes is copied, so that it is contiguous with the bytes around it.
 const LONGEST_COPIED: usize = 65_536;
 
-/// A text that may share one part with other texts. The shared part is borrowed and not copied. Contracts see the whole
-/// text.
+/// A text that may share one part with other texts. It borrows the shared part and does not copy it. In contracts, a
+/// `SharedText` is its whole text.
 #[derive(Drop)]
 pub struct SharedText<'a> {
     own: Vec<u8>,
@@ -29,7 +29,7 @@ impl<'a> Model for SharedText<'a> {
 }
 
 impl<'a> SharedText<'a> {
-    /// A text that shares nothing.
+    /// A text that shares nothing with other texts.
     pub fn of(text: Vec<u8>) -> SharedText<'a>
         ensures { result ≡ text.items }
     {
@@ -51,7 +51,7 @@ impl<'a> SharedText<'a> {
         }
     }
 
-    /// The shared text between two other texts. This takes `before` and copies `after`.
+    /// The shared text between two other texts. Takes `before` and copies `after`.
     pub fn around(
         before: Vec<u8>,
         shared: &'a [u8],
@@ -90,7 +90,7 @@ impl<'a> SharedText<'a> {
         rest_of_three(before, shared, after, place)
     }
 
-    /// The text with these bytes in front. A short shared part is copied, so that the result is contiguous.
+    /// The text with `front` before it. Copies a short shared part, so that the result is contiguous.
     pub fn behind(&self, front: Vec<u8>) -> Result<SharedText<'a>, AllocError>
         ensures { IfOk result (λ text. text ≡ front.items ++ self.now) }
     {
@@ -117,7 +117,7 @@ impl<'a> SharedText<'a> {
         Ok(text)
     }
 
-    /// The text in one piece. If nothing is shared, this copies nothing.
+    /// The text in one piece. Copies nothing if no part of the text is shared.
     pub fn into_vec(self, alloc: Global) -> Result<Vec<u8>, AllocError>
         ensures { IfOk result (λ text. text.items ≡ self.entry) }
     {

@@ -11,16 +11,16 @@ use Rattle.whole_streams.specs.declared.whole.InputFault.TheVariants.{ReadFault,
 abbrev pub HasNoLineFeed : List ℕ → Type 0
 HasNoLineFeed bytes = All (λ b. b ≢ line_feed) bytes
 
--- these bytes begin with this line; `left` is what follows its line feed. The line has neither the line feed nor one carriage return
+-- The bytes begin with this line, and `left` follows its line feed. The line includes neither the line feed nor a carriage return directly
 -- before it.
 abbrev pub BeginsWithLine : List ℕ → List ℕ → List ℕ → Type 0
 BeginsWithLine bytes line left = (whole : List ℕ) × (bytes ≡ whole ++ line_feed ∷ left) × HasNoLineFeed whole × (line ≡ strip_carriage_return whole)
 
--- whatever follows, the lines of the text are these lines and then those of the bytes that are left
+-- whatever follows, the lines of the text are these lines, and then the lines of the bytes that are left
 abbrev pub BeginsWithLines : List ℕ → List (List ℕ) → List ℕ → Type 0
 BeginsWithLines text first left = (more : List ℕ) → lines (text ++ more) ≡ first ++ lines (left ++ more)
 
--- The next part of an input with these bytes at hand, and the bytes at hand after it. Only a last line may have no line feed; such a
+-- The next part of an input with these bytes at hand, and the bytes at hand afterwards. Only a last line may lack a line feed, and such a
 -- line stays unchanged.
 abbrev pub IsNextLine : Option (List ℕ) → List ℕ → NextLine → List ℕ → Type 0
 IsNextLine remaining bytes (Ended line) left = BeginsWithLine bytes line.items left
@@ -32,7 +32,7 @@ line_bytes (Ended line) = line.items
 line_bytes (Last line) = line.items
 line_bytes Nothing = []
 
--- the bytes that are left at the end of the input are a last line, or none are left
+-- the bytes that are left at the end of the input are the last line; or no bytes are left
 abbrev pub IsEnd : List ℕ → NextLine → Type 0
 IsEnd bytes (Ended line) = ⊥
 IsEnd bytes (Last line) = (line.items ≡ bytes) × (0 < length bytes)

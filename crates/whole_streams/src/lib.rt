@@ -1,5 +1,5 @@
-//! Reads whole inputs, writes whole outputs, reads an input line by line, and formats text to a stream, over streams that
-//! count their calls and failures.
+//! Reads whole inputs, writes whole outputs, reads inputs line by line, and formats text to streams. The streams count
+//! their calls and failures.
 #![tactic(auto)]
 
 pub mod laws;

@@ -1,4 +1,4 @@
-//! Reads an input line by line, and has only one line in memory at a time.
+//! Reads an input line by line, with only one line in memory at a time.
 ghost use Rattle.std.specs.Prelude.{◌≡◌, ◌<◌, ◌≤◌, ◌+◌, ◌++◌, [], ℕ, List, length, take, slice_index, IfOk, OnOk, IfErr, MatchOption, MatchBool};
 ghost use Rattle.std.specs.Io.KnownBytes.{Consumes, IsAtEnd};
 ghost use Rattle.std.specs.Str.Lines.{strip_carriage_return};
@@ -21,12 +21,12 @@ pub enum NextLine {
     Ended(Vec<u8>),
     /// The last line, unchanged, if it has no line feed. Nothing follows it in the input.
     Last(Vec<u8>),
-    /// The input is at its end.
+    /// The input has ended.
     Nothing,
 }
 
-/// The bytes of an input that were read but are not yet part of a line. Contracts see the buffer as these bytes. Together
-/// with the bytes left in the stream, they are the rest of the input.
+/// The bytes of an input that were read but are not yet part of a line. In contracts, the buffer is these bytes. The
+/// rest of the input consists of these bytes and the bytes left in the stream.
 #[derive(Drop)]
 pub struct LineBuffer {
     chunk: [u8; READ_SIZE],
@@ -60,7 +60,7 @@ fn without_return(mut line: Vec<u8>) -> Vec<u8>
     line
 }
 
-/// What follows the last line feed: a last line, or nothing.
+/// What remains after the last line feed: a last line, or nothing.
 fn at_end(line: Vec<u8>) -> NextLine
     ensures { IsEnd line.items result }
 {
@@ -118,8 +118,8 @@ impl LineBuffer {
         }
     }
 
-    /// Moves the buffered bytes up to a line feed to the end of the line. Returns whether the line ends at that place. On an error these
-    /// bytes are lost.
+    /// Moves the buffered bytes up to a line feed to the end of `line`. Returns whether the line is complete. On an
+    /// error these bytes are lost.
     fn take_piece(&mut self, line: &mut Vec<u8>, limit: usize) -> Result<bool, InputFault>
         requires { length line.old.items ≤ limit }
         ensures piece { IfOk result (λ ended. (piece : List ℕ) × (line.new.items ≡ line.old.items ++ piece)
@@ -151,7 +151,7 @@ impl LineBuffer {
     }
 
     /// The next line of the input. It may have at most `limit` bytes before its line feed, and take at most 200,000
-    /// reads. On an error, the part of the line that was read is lost.
+    /// reads. On an error, the part of the line that was already read is lost.
     pub fn next_line<R: Read>(
         &mut self,
         alloc: Global,

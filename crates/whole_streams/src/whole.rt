@@ -26,7 +26,7 @@ pub struct WriteFault;
 /// The size of a read, in bytes.
 pub(crate) const READ_SIZE: usize = 16_384;
 
-/// Reads the stream up to its end, with at most `limit` bytes.
+/// Reads the stream to its end. The stream may have at most `limit` bytes.
 pub fn read_to_end<R: Read>(
     alloc: Global,
     reader: &mut Counted<R>,
@@ -60,7 +60,7 @@ pub fn read_to_end<R: Read>(
     Err(InputFault::ReadFault)
 }
 
-/// Writes all bytes. On an error, a prefix of them has been written.
+/// Writes all bytes. On an error, a prefix of them was written.
 pub fn write_all<W: Write>(writer: &mut Counted<W>, output: &[u8]) -> Result<(), WriteFault>
     ensures whole { OnOk result (Appends (W.contents writer.old.stream) (W.contents writer.new.stream) output.now) }
     ensures no_fault { OnOk result (writer.new.faults ≡ writer.old.faults) }

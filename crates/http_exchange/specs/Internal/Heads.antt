@@ -1,4 +1,4 @@
--- What is known about a message while it is read.
+-- What is known about a message while it is being read.
 use Rattle.std.specs.Prelude.{◌≡◌, ℕ, ◌≤◌, ◌⊎◌, Bool, List, Option, Some, None, ⊤}
 use Rattle.std.specs.Str.Parse.{digits_value}
 use Rattle.game_core.specs.Numerals.{are_digits}
@@ -14,12 +14,12 @@ use Rattle.http_exchange.specs.declared.head.HeadPart.TheVariants as parts
 use Rattle.http_exchange.specs.declared.look.Look.{Look}
 use Rattle.http_exchange.specs.declared.look.Look.TheVariants as looks
 
--- the length that the digits give, if there are any
+-- the length that the digits write, or none if there are no digits
 abbrev pub length_of : Option (List ℕ) → BodyLength
 length_of None = unsaid
 length_of (Some digits) = said (digits_value 10 digits)
 
--- the value is digits and, if there is an earlier value, writes the same number
+-- the value consists of digits and, if there is an earlier value, writes the same number
 abbrev pub agrees : Option (List ℕ) → List ℕ → Bool
 agrees None value = are_digits value
 agrees (Some before) value = writes_number (digits_value 10 before) value

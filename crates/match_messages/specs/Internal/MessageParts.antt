@@ -1,4 +1,4 @@
--- The parts that the reader of a message returns. Each result may be an out-of-memory error instead.
+-- The parts of a message, as its reader returns them. Each result may be an out-of-memory error instead.
 use Rattle.std.specs.Prelude.{◌≡◌, List, ℕ, Option, Some, None, option_map, Result, Ok, Err, Vec}
 use Rattle.std.specs.Global.{Global}
 use Rattle.game_core.specs.Expression.{Expressions}
@@ -7,7 +7,7 @@ use Rattle.kif_text.specs.declared.expr.Expr.{Expr}
 use Rattle.match_messages.specs.declared.messages.MessageFault.{MessageFault}
 use Rattle.match_messages.specs.declared.messages.MessageFault.TheVariants.{Unreadable, BadMessage, BadClock, Memory}
 
--- `found` is the part with f applied, or None if the message is bad
+-- `found` is f of the part, or None if the message is bad
 abbrev pub GivesPart : {A B : Type 0} → (A → B) → Result A MessageFault → Option B → Type 0
 GivesPart f (Ok part) found = found ≡ Some (f part)
 GivesPart f (Err Unreadable) found = ⊥

@@ -17,7 +17,7 @@ abbrev pub answering : BriefValue → ℕ → Option ℕ → Reply → List Even
 answering brief role None reply = []
 answering brief role (Some round) reply = makes (answer_call brief.id role round Broken) ∷ takes reply ∷ []
 
--- a role that is given up, and the replies to the three calls that do this; the last call is made only if a message is due
+-- a role that is given up, with the replies to the three calls that give it up; the last call is made only if a message is due
 pub record GivenUp : Type 0 where
   pub of : Unattended
   pub aborted : Reply
@@ -28,7 +28,7 @@ pub record GivenUp : Type 0 where
 abbrev pub aborting : GivenUp → List Event
 aborting it = makes (Abort it.of.brief.now.id) ∷ takes it.aborted ∷ asking it.of.brief.now it.of.role it.due
 
--- then a message that is due is answered
+-- the match is aborted, the desk is asked, and a message that is due is answered
 abbrev pub giving_up : GivenUp → List Event
 giving_up it = aborting it ++ answering it.of.brief.now it.of.role (due_round it.due) it.answered
 

@@ -6,7 +6,7 @@ use lib.Seq.{take-add}
 use Rattle.http_exchange.proofs.MessageReads.{one_more_call}
 use Rattle.http_exchange.proofs.sending.send.Goals as goal
 
--- one more write takes n bytes from place t
+-- one more write takes n bytes, starting at index t
 Appends_more : (a b c : Option (List ℕ)) (text rest more : List ℕ) (t n : ℕ) → rest ++ more ≡ drop t text → n ≤ length rest
     → Appends a b (take t text) → Appends b c (take n rest) → Appends a c (take (t + n) text)
 Appends_more a b c text rest more t n is within before now =

@@ -4,7 +4,7 @@ use Rattle.match_plans.specs.Addresses.{IsAddress}
 use Rattle.match_plans.specs.Schedules.{player_fault}
 use Rattle.match_plans.proofs.plan_line.players.Given as goal
 
--- the error of all words is that of the remaining ones
+-- the error of all words is the error of the remaining words
 abbrev pub invariant-loop-word : goal.invariant-loop-word
 invariant-loop-word l = record {
   addresses : AllZip IsAddress (map (λ w. w.now) (take l.word-index l.words)) l.players.items;

@@ -16,7 +16,7 @@ use Rattle.match_plans.proofs.Placing.{bad-line, next, once-more, placed}
 use Rattle.match_plans.proofs.schedule.read_schedule.Goals as goal
 use Rattle.match_plans.proofs.schedule.read_schedule.Goals.{In_ok-words}
 
--- the current text line is the first bad one, if it has this error after the matches so far
+-- if the current text line has this error after the matches so far, it is the first bad one
 first-bad : (c : In_ok-words) (fault : LineFault) → IsFaultOf c.args.roles c.args.strikes c.loop-line.plans.items (map (λ w. w.now) c.in_ok-words.words.items) fault
     → IsBadLine c.args.roles c.args.strikes (cut_lines c.args.input.now) (BadLine (c.loop-line.number + 1) fault)
 first-bad c fault bad =

@@ -11,7 +11,7 @@ use Rattle.match_workers.specs.declared.refereeing.RefereeFault.TheVariants.{Unc
 use Rattle.match_workers.proofs.RefereeFaults.{no_reason}
 use Rattle.match_workers.proofs.closing.close_match.Goals as goal
 
--- an error of the last rounds is reported unchanged
+-- the result reports an error of the last rounds unchanged
 never_unclosed : (cause : CallFault) → referee_fault (ask_fault cause) ≡ Unclosed → ⊥
 never_unclosed Full is = cc
 never_unclosed Memory is = cc

@@ -10,7 +10,7 @@ reason_is : (refusal : Option Refusal) (reason : Refusal) → Refused reason ≡
 reason_is None reason is = absurd cc
 reason_is (Some r) reason is = let same : reason ≡ r = cc in ap Some same
 
--- any other reply shows that there is no refusal
+-- any other reply shows that the manager does not refuse the call
 none_is : (refusal : Option Refusal) (r : Reply) → r ≡ refused_or refusal Opened → ((reason : Refusal) → r ≢ Refused reason) → None ≡ refusal
 none_is None r is other = refl
 none_is (Some reason) r is other = absurd (other reason is)

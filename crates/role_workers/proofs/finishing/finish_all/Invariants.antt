@@ -4,7 +4,7 @@ use Rattle.role_workers.specs.RoleLines.{IsFinishedAt}
 use Rattle.role_workers.specs.Places.{EachAt}
 use Rattle.role_workers.proofs.finishing.finish_all.Given as goal
 
--- the elements that were added, and then those that remain
+-- the elements that were added, followed by the elements that remain
 abbrev pub invariant-loop-wire : goal.invariant-loop-wire
 invariant-loop-wire g l = record {
   rest : into_iter_items l.wire-iterator ≡ drop (length l.lines.items) l.fn.attended.items;

@@ -5,7 +5,7 @@ use Rattle.std.proofs.KnownBytes.{Appends-trans}
 use lib.Seq.{take-add}
 use Rattle.whole_streams.proofs.whole.write_all.Goals as goal
 
--- one more write takes n bytes, beginning at index t
+-- one more write takes n bytes, starting at index t
 Appends_more : (a b c : Option (List ℕ)) (output : List ℕ) (t n : ℕ)
     → Appends a b (take t output) → Appends b c (take n (take (length output - t) (drop t output)))
     → Appends a c (take (t + n) output)
