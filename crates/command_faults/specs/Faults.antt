@@ -41,12 +41,12 @@ input_file_fault fault = fault
 abbrev pub IsFileFault : NamedFile → Fault → Type 0
 IsFileFault named fault = (fault ≡ Memory) ⊎ ((why : FileFault) × (fault ≡ File named why))
 
--- A file that is refused for its size has more bytes than this limit, and the fault names both.
+-- If a file is refused for its size, the error has its size and this limit. The size exceeds the limit.
 abbrev pub NamesSize : MaxBytes → Fault → Type 0
 NamesSize limit (File named (TooLarge size accepted)) = (accepted ≡ limit) × (limit.bytes < size)
 NamesSize limit fault = Unit {0}
 
--- The fault is not that a file is too large.
+-- The error is not that a file is too large.
 abbrev pub IsNotOfSize : Fault → Type 0
 IsNotOfSize fault = (limit : MaxBytes) → NamesSize limit fault
 
@@ -58,7 +58,7 @@ abbrev pub schedule_fault : ScheduleFault → Fault
 schedule_fault (BadLine number why) = BadSchedule number why
 schedule_fault ScheduleMemory = Memory
 
--- The exit status for an error. Without an error it is 0.
+-- The exit status for an error.
 abbrev pub status_of : Fault → ℕ
 status_of WrongUse = 2
 status_of Memory = 3

@@ -1,4 +1,4 @@
--- Limits of what is read.
+-- Limits of inputs.
 use Rattle.std.specs.Prelude.{ℕ, Option, Some, None}
 use Rattle.game_core.specs.Limits.{max_bytes}
 use Rattle.game_core.specs.declared.limits.Limits.{Limits}

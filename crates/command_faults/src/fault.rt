@@ -12,7 +12,7 @@ use std::alloc::{AllocError, AllocFailed};
 use std::fmt;
 use whole_streams::{InputFault, WriteFault};
 
-/// An error of the program. Standard error shows it after the program's name.
+/// An error of the program. It is written to standard error after the program's name.
 #[derive(Clone, Copy)]
 pub enum Fault {
     /// The command line is refused.
@@ -35,8 +35,8 @@ pub enum Fault {
     WriteFault,
     /// The player cannot be reached, or its answer cannot be read.
     NoAnswer,
-    /// The referee lacked this resource, so it did not send a message, or sent it too late, or lost the answer. The player did nothing
-    /// wrong.
+    /// The referee lacked this resource, so it did not send a message, sent it too late, or lost the answer. The player
+    /// did nothing wrong.
     NotSent(Shortage),
     /// Clients cannot connect to the address of `--listen`.
     NotListening,
@@ -50,14 +50,14 @@ pub enum Fault {
     BadSchedule(u64, LineFault),
     /// This many matches of a schedule have no record. The other records were written.
     NoRecords(u64),
-    /// The record is not lawful. This is the first test that failed.
+    /// The record is not lawful. This is the first check that failed.
     NotLawful(VerifyFault),
     /// This many lines of the input are not lawful records. All verdicts were written.
     UnlawfulRecords(u64),
     /// The line of the call log with this number has no valid call.
     NoEntry(u64),
-    /// The call in the line with this number gets a different reply, or the line is not in canonical form. The output has
-    /// the correct line.
+    /// The call in the line with this number gets a different reply, or the line is not in canonical form. The output
+    /// has the correct line.
     Differs(u64),
     /// This many lines of a script are bad. The whole output was written.
     BadLines(u64),
@@ -77,7 +77,7 @@ impl Fault {
         }
     }
 
-    /// The message, or its constant beginning if the message depends on the error's value.
+    /// The message. If the message depends on the error's value, this is only its constant beginning.
     fn words(self) -> &'static str {
         match self {
             Fault::WrongUse => "wrong use",

@@ -18,9 +18,9 @@ use whole_streams::{InputFault, Pieces, read_to_end};
 /// How many bytes a file may have.
 #[derive(Clone, Copy)]
 pub struct MaxBytes {
-    /// The limit with the options that are given.
+    /// The limit with the options of the command line.
     pub bytes: u32,
-    /// The limit with `--large`, if the option is not given and would raise the limit.
+    /// The limit with `--large`, if the option is not given but would raise the limit.
     pub with_large: Option<u32>,
 }
 
@@ -63,13 +63,13 @@ impl fmt::Display for MaxBytes {
     }
 }
 
-/// The limit of the bytes in a file of players' rules.
+/// The largest number of bytes in a file of players' rules.
 pub const MAX_PLAYER_RULES: u32 = 1_048_576;
 
-/// The limit of a line's bytes in an input of records or call logs: 64 GiB. No record of a match is that long.
+/// The largest number of bytes in a line of records or call logs: 64 GiB. No record of a match is that long.
 pub const MAX_LINE: usize = 68_719_476_736;
 
-/// What the command line names a file for.
+/// The use for which the command line names a file.
 #[derive(Clone, Copy)]
 pub enum NamedFile {
     /// The game's rules.
@@ -104,29 +104,29 @@ impl NamedFile {
 #[derive(Clone, Copy)]
 pub enum FileFault {
     NoFile,
-    /// A new file cannot have its path.
+    /// A new file cannot be created, because the path already exists.
     Exists,
     Unopened,
     Unread,
     Unwritten,
-    /// It has this many bytes, which is more than it may have.
+    /// The file has this many bytes, which is more than it may have.
     TooLarge(u64, MaxBytes),
-    /// Its content, or one of its lines, is longer than the limit.
+    /// The file's content, or one of its lines, is longer than the limit.
     TooLong,
-    /// It is a directory, a pipe or a device.
+    /// The file is a directory, a pipe or a device.
     NotRegular,
-    /// Another program appends to it.
+    /// Another program is appending to the file.
     InUse,
-    /// Its incomplete end cannot be moved to another file.
+    /// The file's incomplete end cannot be moved to another file.
     Unmended,
-    /// The call log of a record in it is incomplete.
+    /// The file has a record whose call log is incomplete.
     Partial,
     /// Another file or stream of the command is the same file.
     Shared,
 }
 
 impl FileFault {
-    /// The fault's text, or its first words.
+    /// The message, or its beginning.
     fn words(self) -> &'static str {
         match self {
             FileFault::NoFile => "no such file",
@@ -188,7 +188,7 @@ pub fn opened<F: Files>(files: &F, named: NamedFile, path: &str) -> Result<Count
     }
 }
 
-/// Opens the regular file at this path. Refuses a directory, a pipe or a device, because opening a pipe may block.
+/// Opens the regular file at this path. Refuses directories, pipes and devices, because opening a pipe may block.
 pub fn opened_regular<F: Files>(
     files: &F,
     named: NamedFile,
@@ -215,7 +215,7 @@ pub fn reading_fault(named: NamedFile, fault: InputFault) -> Fault
     }
 }
 
-/// Turns an error of standard input into one of the input file.
+/// Turns an error of standard input into the same error of the input file.
 pub fn input_file_fault(fault: Fault) -> Fault
     ensures { result ≡ input_file_fault fault }
 {
@@ -226,8 +226,8 @@ pub fn input_file_fault(fault: Fault) -> Fault
     }
 }
 
-/// The size of a file that has more bytes than the limit. If the size is not known, for example for a pipe, this is the
-/// limit plus 1.
+/// The size of a file that has more bytes than the limit. If the size is not known, as for a pipe, this is the limit
+/// plus 1.
 fn size_above<F: Files>(files: &F, path: &str, limit: u32) -> u64
     ensures { limit < result }
 {

@@ -1,10 +1,10 @@
-//! Formats text from outside for one line of standard error.
+//! Formats text from outside so that it fits on one line of standard error.
 
 use std::fmt;
 use std::fmt::Write as _;
 
-/// Text from outside: an id, a name, a path. It is printed with `?` for each control character, so that it can neither change the
-/// terminal nor begin a new line.
+/// Text from outside, such as an id, a name or a path. It is printed with `?` for each control character, so that it
+/// can neither control the terminal nor begin a new line.
 #[derive(Clone, Copy)]
 pub struct Printable<'a>(pub &'a str);
 

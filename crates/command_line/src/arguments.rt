@@ -18,7 +18,7 @@ use std::alloc::{AllocError, AllocFailed, Global};
 /// Why a value on a well-formed command line is invalid.
 #[derive(Clone, Copy)]
 pub enum WrongValue<'a> {
-    /// Not exactly one option names the game.
+    /// The options do not name exactly one source of the game.
     Game,
     /// The value of the option is not a number from `least` to `limit`.
     Number {
@@ -75,7 +75,7 @@ impl<'a> From<WrongValue<'a>> for ArgumentFault<'a> {
     }
 }
 
-/// The value of an option as a number from `least` to `limit`.
+/// The value of an option as a number. It must be from `least` to `limit`.
 fn number<'a>(
     found: &ArgMatches<'a>,
     option: &'static str,
@@ -96,7 +96,7 @@ fn number<'a>(
     }
 }
 
-/// The value of an option in seconds. Whether a clock can have this value is checked later.
+/// The value of an option in seconds. A later check decides whether a clock can have this value.
 fn seconds<'a>(found: &ArgMatches<'a>, option: &'static str) -> Result<u32, WrongValue<'a>> {
     Ok(number(found, option, 0, 4_294_967_295)? as u32)
 }
@@ -114,7 +114,7 @@ fn limits(found: &ArgMatches<'_>) -> Limits {
     }
 }
 
-/// The game's source. The command line must have exactly one of the options that name a source.
+/// The game's source. The command line must have exactly one option that names a source.
 fn game_source<'a>(found: &ArgMatches<'a>) -> Result<GameSource<'a>, WrongValue<'a>> {
     let limits = limits(found);
     let size = found.get_str("countdown");
@@ -251,7 +251,7 @@ fn abort_plan<'a>(
     })
 }
 
-/// The task of a command that plays or checks matches. Returns `Form` for any other command.
+/// The task of a command that plays or checks matches. The error is `Form` for any other command.
 fn hosted_task<'a>(
     alloc: Global,
     name: &str,
@@ -265,7 +265,8 @@ fn hosted_task<'a>(
     }
 }
 
-/// A script of calls on a desk with one game, or a desk that listens. That desk may have several games: one for each file.
+/// The task of `desk`: a script of calls on a desk with one game, or a desk that listens and may have several games,
+/// one for each file.
 fn desk_task<'a>(alloc: Global, found: &ArgMatches<'a>) -> Result<Task<'a>, ArgumentFault<'a>> {
     let files = found.get_strs("rules-file").unwrap_or(&[]);
     let Some(address) = found.get_str("listen") else {

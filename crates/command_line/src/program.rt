@@ -12,13 +12,13 @@ pub const PROGRAM: &str = "ggp_manager";
 /// How an argument is written on the command line.
 #[derive(Clone, Copy)]
 enum Form {
-    /// An optional option, with the name of its value in the help.
+    /// An optional option. The help shows this name for its value.
     Value(&'static str),
     /// A required option, with the name of its value.
     Required(&'static str),
-    /// An optional option, with the name of its value and its default.
+    /// An optional option, with the name and the default of its value.
     Default(&'static str, &'static str),
-    /// An optional option that may be given several times, with the name of its value.
+    /// An option that may be given any number of times, with the name of its value.
     Repeated(&'static str),
     /// The address of a desk that listens.
     Listen,

@@ -64,8 +64,8 @@ pub enum MatchTask<'a> {
     Check(CheckPlan<'a>),
 }
 
-/// The options about the game: its source, the file with the rules that players get instead of the game's own, and the log
-/// file.
+/// The options about the game: its source, the file with the rules that players get instead of the game's own rules,
+/// and the log file.
 #[derive(Clone, Copy)]
 pub struct GameOptions<'a> {
     pub game: GameSource<'a>,
@@ -90,12 +90,12 @@ pub struct SeasonPlan<'a> {
     pub schedule: Option<&'a str>,
     /// A file of records. `season` does not play the matches of these records again.
     pub done: Option<&'a str>,
-    /// A file that `season` appends records to, instead of printing them. `season` does not play the matches of the
+    /// A file to which `season` appends the records instead of printing them. `season` does not play the matches of the
     /// file's records again.
     pub records: Option<&'a str>,
 }
 
-/// The match to abort, by its id, the players that take part in it, and whether to print the answers as JSON.
+/// The id of the match to abort, the players that take part in it, and whether to print the answers as JSON.
 #[derive(Drop)]
 pub struct AbortPlan<'a> {
     pub id: &'a str,

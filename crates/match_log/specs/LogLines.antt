@@ -1,4 +1,4 @@
--- The text lines of the log, each a JSON object.
+-- The text lines of the log. Each is a JSON object.
 use Rattle.std.specs.Prelude.{ℕ, ◌+◌, ◌/◌, ◌%◌, ◌==◌, ◌||◌, nat_lt, List, [], ◌∷◌, ◌++◌, codes, flat_map, if◌then◌else◌, Option, Some, None, option_map}
 use Rattle.std.specs.Borrow.{Bor}
 use Rattle.std.specs.Fmt.{decimal}
@@ -13,8 +13,8 @@ use Rattle.match_log.specs.declared.events.Event.TheVariants.{Begun, Message, Op
 abbrev pub hex_digit : ℕ → ℕ
 hex_digit number = if nat_lt number 10 then number + 48 else number + 87
 
--- A byte in a string: a quotation mark or a backslash after a backslash, a byte from the space to the tilde as it is, and any other byte
--- as its number in four digits.
+-- A byte in a string: a quotation mark or a backslash has a backslash before it, any other byte from the space to the tilde is unchanged,
+-- and every other byte is `\u` with its number in four hexadecimal digits.
 abbrev pub escaped : ℕ → List ℕ
 escaped byte = if (byte == 34) || (byte == 92) then 92 ∷ byte ∷ []
     else if is_visible byte then byte ∷ []
@@ -41,7 +41,7 @@ member (name, value) = codes ",\"" ++ (name ++ (codes "\":" ++ value))
 abbrev pub written_member : Bor (List ℕ) × Json → List ℕ
 written_member m = member (m.0.now, json_value m.1)
 
--- the object with these members, and a line feed
+-- the text line of the object with these members, with its line feed
 abbrev pub object_line : List ℕ → List ℕ → List ℕ
 object_line event members = codes "{\"event\":\"" ++ (event ++ (codes "\"" ++ (members ++ codes "}\n")))
 
@@ -58,7 +58,7 @@ exchange_members e = (codes "number", decimal e.number) ∷ (codes "kind", json_
 abbrev pub message_line : Addressee → Exchange → List ℕ
 message_line to exchange = object_line (codes "message") (flat_map member (addressee_members to ++ exchange_members exchange))
 
--- an object of the log, and a line feed
+-- the text line of an object of the log, with its line feed
 abbrev pub event_line : Event → List ℕ
 event_line (Begun version) = object_line (codes "log")
     (flat_map member ((codes "program", json_string (codes "ggp_manager")) ∷ (codes "version", json_string version.now) ∷ []))

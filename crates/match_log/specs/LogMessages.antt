@@ -1,4 +1,4 @@
--- What the log says about a message and its answer.
+-- What the log contains about a message and its answer.
 use Rattle.std.specs.Prelude.{ℕ, List, Option, Some, None, codes}
 use Rattle.desk_calls.specs.declared.answer.Answer.{Answer}
 use Rattle.desk_calls.specs.declared.answer.Answer.TheVariants.{Text, Silent, Broken}
@@ -7,7 +7,7 @@ use Rattle.match_messages.specs.declared.kind.MessageKind.TheVariants.{Info, Sta
 use Rattle.network_players.specs.declared.contacting.ContactFault.{ContactFault}
 use Rattle.network_players.specs.declared.contacting.ContactFault.TheVariants.{Shortage}
 
--- the word for a message of a match
+-- the word for the kind of a message
 abbrev pub kind_text : Option MessageKind → Option (List ℕ)
 kind_text None = None
 kind_text (Some Start) = Some (codes "START")
@@ -21,7 +21,7 @@ answer_text (Text text) = Some text
 answer_text Silent = None
 answer_text Broken = None
 
--- the word, or `lost` if the referee lacked a resource
+-- the given word, or `lost` if the referee lacked a resource
 abbrev pub unless_short : Option ContactFault → List ℕ → List ℕ
 unless_short (Some (Shortage shortage)) word = codes "lost"
 unless_short why word = word

@@ -1,4 +1,4 @@
--- How a text line shows a text of any bytes.
+-- How a text of any bytes is shown on one text line.
 use Rattle.std.specs.Prelude.{ℕ, ◌==◌, ◌&&◌, Bool, nat_le, nat_lt, List, [], ◌++◌, length, take, map, codes, if◌then◌else◌}
 use Rattle.game_core.specs.Bytes.{line_feed}
 
@@ -6,19 +6,19 @@ use Rattle.game_core.specs.Bytes.{line_feed}
 abbrev pub is_visible : ℕ → Bool
 is_visible byte = nat_le 32 byte && nat_le byte 126
 
--- ? replaces every other byte
+-- the byte if it is visible, and otherwise ?
 abbrev pub shown_byte : ℕ → ℕ
 shown_byte byte = if is_visible byte then byte else 63
 
--- the same, except that line feeds stay, since a report may have several text lines
+-- the same, except that a line feed stays, since a report may have several text lines
 abbrev pub reported_byte : ℕ → ℕ
 reported_byte byte = if byte == line_feed then byte else shown_byte byte
 
--- the largest number of bytes that are shown
+-- the largest number of bytes of a text that are shown
 abbrev pub max_shown : ℕ
 max_shown = 200
 
--- two dots mean that there are more bytes
+-- two dots if there are more bytes
 abbrev pub further : List ℕ → List ℕ
 further text = if nat_lt max_shown (length text) then codes ".." else []
 

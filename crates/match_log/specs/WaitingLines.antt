@@ -3,12 +3,12 @@ use Rattle.std.specs.Prelude.{◌≡◌, ℕ, ◌≤◌, Bool, false, List, [], 
 use Rattle.game_core.specs.Counting.{one_more}
 use Rattle.match_log.specs.declared.notices.Waiting.{Waiting}
 
--- nothing waits; `closed` says whether the reports have ended
+-- no text waits; `closed` says whether the reports have ended
 abbrev pub IsNothing : Waiting → Bool → Type 0
 IsNothing waiting closed = (waiting.reports.items ≡ []) × (waiting.log.items ≡ []) × (waiting.left_out ≡ 0)
     × (waiting.has_moved ≡ false) × (waiting.is_closed ≡ closed)
 
--- the largest number of bytes that wait, including a new text line of the log
+-- the largest number of bytes that may wait, including a new text line of the log
 abbrev pub max_waiting : ℕ
 max_waiting = 8388608
 

@@ -82,7 +82,7 @@ impl fmt::Display for Json<'_> {
     }
 }
 
-/// Writes an object in one text line: what it reports, and its members in order.
+/// Writes an object as one text line: the name of the event, and then its members in order.
 fn write_object<F: fmt::Write>(
     f: &mut fmt::Formatter<F>,
     event: &str,
@@ -106,7 +106,7 @@ pub struct Addressee<'a> {
     pub name: Json<'a>,
 }
 
-/// A message and its result.
+/// A message and its outcome.
 #[derive(Clone, Copy)]
 pub struct Exchange<'a> {
     /// The number of the message among the player's messages in the match, counted from 1.
@@ -119,7 +119,7 @@ pub struct Exchange<'a> {
     pub millis: u128,
     pub message: Json<'a>,
     pub answer: Json<'a>,
-    /// Why there is no answer: a word and the reason.
+    /// Why there is no answer: a word, and then the reason.
     pub error: Json<'a>,
     pub reason: Json<'a>,
 }
@@ -166,7 +166,7 @@ fn write_message<'a, F: fmt::Write>(
     write_object(f, "message", &members)
 }
 
-/// The object in one text line.
+/// The object as one text line.
 impl fmt::Display for Event<'_> {
     ghost use Rattle.std.specs.Prelude.{Some};
     ghost use Rattle.match_log.specs.LogLines.{event_line};

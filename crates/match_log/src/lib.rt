@@ -1,7 +1,7 @@
 //! Reports on running matches: each message with its answer, or the progress of the matches.
 //!
-//! `Logging` wraps another `Reach` and logs the messages of its players. `Notices` stores the reports until a thread writes them, so
-//! no match waits for a reader. `StatusStream` writes messages with a status line below them.
+//! `Logging` wraps another `Reach` and logs the messages of its players. `Notices` stores the reports until a thread
+//! writes them, so that no match waits for a reader. `StatusStream` writes messages, with a status line below them.
 #![tactic(auto)]
 
 mod events;

@@ -1,4 +1,5 @@
-//! Logs matches while they run: `Logging` wraps players, and reports each message with its answer and the progress of the matches.
+//! Logs matches while they run. `Logging` wraps players, and reports each message with its answer, and the progress of
+//! the matches.
 ghost use Rattle.std.specs.Prelude.{◌≡◌, ◌==◌, ◌||◌, IfOk, Ok, option_map, string_bytes};
 ghost use Rattle.match_log.specs.LogMessages.{answer_text, error_word, kind_text};
 
@@ -22,26 +23,26 @@ pub struct Logging<'a, H, S> {
     /// The progress of the matches, if it is shown.
     pub progress: Option<&'a Progress>,
     pub notices: &'a Notices,
-    /// Whether only one player of each match is logged. If so, the match is counted by that player, whatever its role,
-    /// and otherwise by the player of the first role.
+    /// Whether only one player of each match is logged. If so, that player counts the match, whatever its role;
+    /// otherwise the player of the first role counts it.
     pub is_alone: bool,
-    /// Whether the program reports on standard error the players whose messages all failed.
+    /// Whether to report on standard error each player for which all messages failed.
     pub names_absent: bool,
 }
 
-/// What the log needs to know about a player of a match.
+/// What the log must know about a player of a match.
 #[derive(Drop)]
 struct PlayerLog<'a> {
     alloc: Global,
     id: String,
     role: usize,
     name: String,
-    /// Whether this player's START, and its STOP or ABORT, are counted as the beginning and the end of the match.
+    /// Whether this player's START counts as the beginning of the match, and its STOP or ABORT as the end.
     counts: bool,
-    /// The number of messages to the player, and of those that asked for a move.
+    /// The number of messages to the player, and the number of those that asked for a move.
     messages: u64,
     plays: u64,
-    /// Whether all these messages failed and the referee lacked no resource.
+    /// Whether all these messages failed although the referee lacked no resource.
     is_absent: bool,
     names_absent: bool,
     progress: Option<&'a Progress>,
@@ -61,12 +62,12 @@ pub struct LoggedPlayer<'a, H, P> {
 struct Sent<'a> {
     message: &'a SharedText<'a>,
     kind: Option<MessageKind>,
-    /// When it was sent, if the clock can be read: a moment, and the milliseconds since 1970.
+    /// When it was sent, as a moment and in milliseconds since 1970, if the clock can be read.
     moment: Option<Instant>,
     time: Option<u128>,
 }
 
-/// The word for a message of a match.
+/// The word for the kind of a message.
 fn kind_text(kind: Option<MessageKind>) -> Option<&'static [u8]>
     ensures { option_map (λ word. word.now) result ≡ kind_text kind }
 {
@@ -79,7 +80,7 @@ fn kind_text(kind: Option<MessageKind>) -> Option<&'static [u8]>
     }
 }
 
-/// The text of a message in the log. In START `...` replaces the description, which is the same for all matches.
+/// The text of a message in the log. In START, `...` replaces the description, which is the same for all matches.
 fn logged_text<'a>(message: &'a SharedText<'_>, kind: Option<MessageKind>) -> Json<'a> {
     let (before, shared, after) = message.parts();
     match kind {
@@ -119,14 +120,14 @@ impl PlayerLog<'_> {
         }
     }
 
-    /// If there is a log, adds an object to it.
+    /// Adds an object to the log, if there is one.
     fn add<R: Wait>(&self, rt: &R, event: &Event<'_>) {
         if self.notices.is_logged {
             self.notices.log(rt, event.to_string(self.alloc));
         }
     }
 
-    /// Counts a message that is sent now, and the match if it begins with this message.
+    /// Counts a message that is being sent, and counts the match if it begins with this message.
     fn begin<'m, R: Clock + Wait>(&mut self, rt: &R, message: &'m SharedText<'m>) -> Sent<'m> {
         self.messages = self.messages.saturating_add(1);
         let kind = MessageKind::of(message);
@@ -149,7 +150,7 @@ impl PlayerLog<'_> {
         }
     }
 
-    /// Reports a message with its answer, and the match if it ends with this message.
+    /// Reports a message with its answer, and the end of the match if the match ends with this message.
     fn report<R: Clock + Wait>(
         &mut self,
         rt: &R,

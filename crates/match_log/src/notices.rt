@@ -1,4 +1,4 @@
-//! Reports that wait to be written. No match waits for their reader.
+//! Reports that wait to be written, so that no match waits for their reader.
 ghost use Rattle.std.specs.Prelude.{◌↔◌, ◌⊎◌, false, IfOk, IsTrue, OnErr, string_bytes};
 ghost use Rattle.match_log.specs.WaitingLines.{IsLeftOut, IsNothing, Waits};
 
@@ -14,11 +14,12 @@ use std::time::{Clock, Duration};
 use std::{fmt, io, mem};
 use whole_streams::{Pieces, write_all};
 
-/// The largest number of bytes of the log that wait, including a new text line: 8 MiB. If nothing waits, any text line fits: a message has
-/// at most 131,072 bytes of moves, an answer 65,536 bytes, and each byte takes at most six.
+/// The largest number of bytes of the log that may wait, including a new text line: 8 MiB. If nothing waits, any text
+/// line fits: a message has at most 131,072 bytes of moves, an answer has at most 65,536 bytes, and each byte becomes
+/// at most six.
 const MAX_WAITING: usize = 8_388_608;
 
-/// The longest wait for reports, in seconds. Then another wait begins.
+/// The longest wait for reports, in seconds. After it, another wait begins.
 const LONGEST_WAIT_SECONDS: u64 = 3_600;
 
 /// The reports that wait to be written.
@@ -28,9 +29,9 @@ struct Waiting {
     reports: Vec<u8>,
     /// Text lines of the log.
     log: Vec<u8>,
-    /// The number of text lines that are missing from the log after these.
+    /// The number of text lines that are missing from the log after the waiting ones.
     left_out: u64,
-    /// Whether the matches have progressed since the status line was written.
+    /// Whether the matches have progressed since the status line was last written.
     has_moved: bool,
     is_closed: bool,
 }
@@ -48,7 +49,7 @@ impl Waiting {
         }
     }
 
-    /// Whether no line waits, but more may come.
+    /// Whether nothing waits, but more may come.
     fn is_idle(&self) -> bool
         ensures { IsTrue result ↔ IsNothing self.now false }
     {
@@ -56,8 +57,8 @@ impl Waiting {
         is_empty && !self.has_moved && !self.is_closed
     }
 
-    /// Appends a text line to the log. Counts the line as left out if too much waits already, or if there was or is no
-    /// memory for it.
+    /// Appends a text line to the log. If too much already waits, or memory ran out, counts the text line as left out
+    /// instead.
     fn log(&mut self, line: Result<String, AllocError>)
         ensures line { IfOk line (λ line. Waits self.old self.new (string_bytes line) ⊎ IsLeftOut self.old self.new) }
         ensures none { OnErr line (IsLeftOut self.old self.new) }
@@ -72,7 +73,7 @@ impl Waiting {
     }
 }
 
-/// The number of text lines that end in a text.
+/// The number of complete text lines in a text.
 fn lines_in(text: &[u8]) -> u64 {
     let mut count = 0u64;
     for byte in text {
@@ -83,7 +84,7 @@ fn lines_in(text: &[u8]) -> u64 {
     count
 }
 
-/// Writes complete text lines until the stream fails. Returns the number of lines that were not written completely.
+/// Writes complete text lines until the stream fails. Returns how many of them were not written completely.
 fn unwritten<W: Write>(stream: &mut W, lines: &[u8]) -> u64 {
     let mut rest = lines;
     while !rest.is_empty() {
@@ -98,14 +99,14 @@ fn unwritten<W: Write>(stream: &mut W, lines: &[u8]) -> u64 {
 /// What is missing from the log. After a failed write, nothing more is written to the log.
 #[derive(Drop)]
 struct LogState {
-    /// The number of objects that were left out and that the log does not report yet.
+    /// The number of objects that were left out and that the log has not yet reported.
     left_out: u64,
     /// The number of text lines that were not written.
     missing: u64,
 }
 
 impl LogState {
-    /// Writes the waiting text lines to the log, and how many were left out.
+    /// Writes the waiting text lines to the log, and then how many were left out.
     fn write<W: Write>(&mut self, alloc: Global, waiting: &mut Waiting, stream: &mut W) {
         self.left_out = self.left_out.saturating_add(waiting.left_out);
         if self.left_out > 0 {
@@ -122,7 +123,7 @@ impl LogState {
         };
     }
 
-    /// Reports what is missing from the log. Ignores a failed write.
+    /// Reports what is missing from the log. Ignores errors of the stream.
     fn end<E: Write>(&self, errors: &mut E) {
         let missing = self.missing.saturating_add(self.left_out);
         if missing > 0 {
@@ -135,7 +136,8 @@ impl LogState {
     }
 }
 
-/// The reports of running matches. They wait until a separate thread writes them, so that a reader that stops reading does not stop a match.
+/// The reports of running matches. They wait until a separate thread writes them. So a reader that stops reading cannot
+/// stop a match.
 #[derive(Drop)]
 pub struct Notices {
     alloc: Global,
@@ -156,14 +158,14 @@ impl Notices {
         }
     }
 
-    /// Adds a text line to the log. If there is no memory for the line, or too much waits already, the line is left out
-    /// and counted.
+    /// Adds a text line to the log. If there is no memory for the text line, or too much already waits, counts it as
+    /// left out instead.
     pub fn log<R: Wait>(&self, rt: &R, line: Result<String, AllocError>) {
         self.waiting.lock(rt).log(line);
         self.changed.notify_one();
     }
 
-    /// Adds to the log, if there is one, that the match with this id has no record.
+    /// Records in the log, if there is one, that the match with this id has no record.
     pub fn log_missing<R: Wait, F: fmt::Display>(&self, rt: &R, id: &str, why: &F) {
         if self.is_logged {
             let line = match why.to_string(self.alloc) {
@@ -189,19 +191,19 @@ impl Notices {
         is_taken
     }
 
-    /// Reports progress of the matches, so that the status line is rewritten.
+    /// Reports that the matches have progressed, so that the status line is rewritten.
     pub fn move_on<R: Wait>(&self, rt: &R) {
         self.waiting.lock(rt).has_moved = true;
         self.changed.notify_one();
     }
 
-    /// Ends the reports. The thread that writes them ends when all are written.
+    /// Ends the reports. The thread that writes them ends when it has written all of them.
     pub fn close<R: Wait>(&self, rt: &R) {
         self.waiting.lock(rt).is_closed = true;
         self.changed.notify_one();
     }
 
-    /// Takes the reports. If there are none, waits for some, at most for `at_most` if that is given.
+    /// Takes the reports. If there are none, waits for some: without a limit, or for `at_most` if that is given.
     fn take<H: Clock + Wait>(&self, rt: &H, at_most: Option<Duration>) -> Waiting {
         let at_most = at_most.unwrap_or(Duration::from_secs(LONGEST_WAIT_SECONDS));
         let mut waiting = self
@@ -217,8 +219,8 @@ impl Notices {
         mem::replace(&mut *waiting, nothing)
     }
 
-    /// Writes the reports and the log until they end. If the log has no separate stream, it is written to the stream of
-    /// the reports. When the matches have progressed, rewrites the status line, once the old one has been visible for a
+    /// Writes the reports and the log until they end. If the log has no separate stream, writes it to the stream of the
+    /// reports. When the matches have progressed, rewrites the status line, once the old one has been visible for a
     /// moment.
     pub fn write_until_closed<H: Clock + Wait, E: Write, L: Write + Drop>(
         &self,
@@ -232,7 +234,7 @@ impl Notices {
             left_out: 0,
             missing: 0,
         };
-        // How long the status line must wait, if it is out of date.
+        // How long the status line must still wait, if it is out of date.
         let mut behind = None;
         for _ in rt.forever() {
             let mut waiting = self.take(rt, behind);
@@ -255,8 +257,8 @@ impl Notices {
     }
 }
 
-/// A stream of reports. Its text lines are added to the notices, without a limit. `?` replaces bytes outside 0x20 to
-/// 0x7E, because an id may contain any bytes.
+/// A stream of reports. Adds its text lines to the notices, without a limit. An id may contain any bytes, so `?`
+/// replaces bytes outside 0x20 to 0x7E.
 #[derive(Drop)]
 pub struct ReportStream<'a, R> {
     rt: &'a R,
@@ -279,7 +281,7 @@ impl<R: Wait> Write for ReportStream<'_, R> {
     fn write(&mut self, bytes: &[u8]) -> io::Result<usize> {
         for byte in bytes {
             if self.line.push(reported_byte(*byte)).is_err() {
-                // Otherwise the next report would continue this one.
+                // Otherwise the next report would be appended to this one.
                 self.line.clear();
                 return Err(io::Error::from(ErrorKind::OutOfMemory));
             }

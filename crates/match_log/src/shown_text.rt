@@ -1,4 +1,4 @@
-//! How a text line shows a text.
+//! How a text is shown on one text line.
 ghost use Rattle.std.specs.Prelude.{◌≡◌, map, take};
 ghost use Rattle.std.specs.Fmt.{WritesOnOk};
 ghost use Rattle.match_log.specs.ShownTexts.{further, reported_byte, shown_byte};
@@ -10,7 +10,8 @@ use std::marker::Model;
 /// The number of bytes of a text that are shown.
 const SHOWN: usize = 200;
 
-/// The first 200 bytes of a text. `?` replaces bytes outside 0x20 to 0x7E, and two dots replace the rest. Contracts see the text.
+/// The first 200 bytes of a text. `?` replaces bytes outside 0x20 to 0x7E, and two dots replace the remaining bytes. In
+/// contracts, it is the text.
 #[derive(Drop)]
 pub struct Shown<'a> {
     /// The parts of the text in order.
@@ -25,7 +26,7 @@ impl<'a> Model for Shown<'a> {
     ghost view = { λ s. s.parts.0.now ++ (s.parts.1.now ++ s.parts.2.now) };
 }
 
-/// How a text line shows a byte.
+/// The byte that is shown for a byte.
 fn shown_byte(byte: u8) -> u8
     ensures { result ≡ shown_byte byte }
 {
@@ -36,7 +37,7 @@ fn shown_byte(byte: u8) -> u8
     }
 }
 
-/// How a report shows a byte. A report may have several text lines.
+/// The byte that a report has for a byte. A report may have several text lines, so a line feed stays.
 pub fn reported_byte(byte: u8) -> u8
     ensures { result ≡ reported_byte byte }
 {
@@ -47,7 +48,7 @@ pub fn reported_byte(byte: u8) -> u8
     }
 }
 
-/// Writes the first bytes of a part, at most `room`.
+/// Writes the first bytes of a part, at most `room` of them.
 fn write_part<F: fmt::Write>(f: &mut fmt::Formatter<F>, part: &[u8], room: usize) -> fmt::Result
     ensures { WritesOnOk F.write_str_gives f.old result (map shown_byte (take room part.now)) f.new }
 {
@@ -76,7 +77,7 @@ impl<'a> Shown<'a> {
         }
     }
 
-    /// What replaces the bytes that are not shown.
+    /// The text that replaces the bytes that are not shown.
     fn further(&self) -> &'static str
         ensures { result.now ≡ further self.now }
     {

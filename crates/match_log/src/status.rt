@@ -13,13 +13,13 @@ use std::sync::{Mutex, Wait};
 use std::time::{Clock, Duration, Instant};
 use whole_streams::Pieces;
 
-/// The shortest time between two writes of the line, in milliseconds.
+/// The shortest time between two writes of the status line, in milliseconds.
 const PERIOD_MILLIS: u64 = 100;
 
-/// Moves the cursor to the beginning of its line, and erases the line: `EL` of ECMA-48.
+/// Moves the cursor to the beginning of its line and erases the line (`EL` of ECMA-48).
 const CLEAR: &str = "\r\x1b[K";
 
-/// The progress of the matches, according to the messages of their players.
+/// The progress of the matches, measured by the messages of their players.
 #[derive(Drop)]
 pub struct Progress {
     /// The number of matches to play, or 0 while it is not known.
@@ -30,7 +30,7 @@ pub struct Progress {
 }
 
 impl Progress {
-    /// Creates the progress before any match has begun.
+    /// The progress before any match has begun.
     pub const fn new() -> Progress {
         Progress {
             planned: AtomicU64::new(0),
@@ -45,14 +45,15 @@ impl Progress {
         self.planned.store(count as u64, Ordering::SeqCst);
     }
 
-    /// Counts the match that begins with a message, if the player counts for its match.
+    /// Counts the match that begins with this message, if this player counts its match.
     pub(crate) fn begin(&self, counts: bool, kind: Option<MessageKind>) {
         if counts && kind == Some(MessageKind::Start) {
             self.begun.fetch_add(1, Ordering::SeqCst);
         }
     }
 
-    /// Counts a message that a player has answered, and the match that ends with STOP or ABORT if the player counts for its match.
+    /// Counts a message that a player has answered. Counts the match that ends with STOP or ABORT, if this player
+    /// counts its match.
     pub(crate) fn count(&self, counts: bool, kind: Option<MessageKind>) {
         self.messages.fetch_add(1, Ordering::SeqCst);
         if counts && matches!(kind, Some(MessageKind::Stop | MessageKind::Abort)) {
@@ -60,7 +61,7 @@ impl Progress {
         }
     }
 
-    /// Rewrites the line. Ignores a failed write.
+    /// Rewrites the status line. Ignores errors of the stream.
     fn show<E: Write>(&self, stream: &mut E) {
         let over = self.over.load(Ordering::SeqCst);
         let open = self.begun.load(Ordering::SeqCst).saturating_sub(over);
@@ -99,7 +100,7 @@ impl<E: Write> StatusStream<E> {
         }
     }
 
-    /// Rewrites the line. If the line was rewritten a moment ago, only returns how long to wait.
+    /// Rewrites the status line. If it was rewritten a moment ago, only returns how long to wait.
     pub(crate) fn show(&mut self, clock: &impl Clock, progress: &Progress) -> Option<Duration>
         ensures shown { IfNone result (IsTrue self.new.is_shown) }
         ensures waits { IfSome result (λ _. self.new ≡ self.old) }
@@ -117,7 +118,7 @@ impl<E: Write> StatusStream<E> {
         None
     }
 
-    /// Erases the line.
+    /// Erases the status line.
     pub fn clear(&mut self)
         ensures { IsFalse self.new.is_shown }
     {
@@ -139,8 +140,8 @@ impl<E: Write> Write for StatusStream<E> {
     }
 }
 
-/// The reference through which an output writes. It is a type that is chosen where the output is made, so that contracts know the stream
-/// to which generic code writes.
+/// Names the reference through which an output writes. The code that makes the output chooses this type, so contracts
+/// know to which stream generic code writes.
 pub trait WriterBrand {
     ghost name: { ℕ };
 }
@@ -149,8 +150,8 @@ impl WriterBrand for Brand {
     ghost name = { 0 };
 }
 
-/// An output through the chosen reference. If the status line may be on the same terminal, it is erased before each
-/// write. Otherwise a write does not wait for reports.
+/// An output that writes through the chosen reference. If the status line may be on the same terminal, each write first
+/// erases it. Otherwise a write does not wait for reports.
 #[derive(Drop)]
 pub struct ClearedOutput<'a, 'w, N: WriterBrand, R, W, E> {
     pub rt: &'a R,

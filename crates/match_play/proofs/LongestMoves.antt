@@ -5,7 +5,7 @@ use Rattle.match_book.specs.AnswerReading.{max_answer}
 use Rattle.ground_rules.specs.LoadedGame.{GameTables, loaded_game}
 use Rattle.match_play.specs.LongestMoves.{IsLongestMove}
 
--- this is the length of the longest of the first texts that fits into an answer, and at least 64
+-- this is the length of the longest of the first texts that fit into an answer, or 64 if that is more
 abbrev pub IsLongestOf : List (List ℕ) → ℕ → ℕ → Type 0
 IsLongestOf texts count most = ((k : ℕ) → k < count → length (slice_index_or texts k []) ≤ max_answer → length (slice_index_or texts k []) ≤ most)
     × (64 ≤ most)

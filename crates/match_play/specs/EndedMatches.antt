@@ -13,12 +13,12 @@ use Rattle.desk_calls.specs.declared.call.Reply.{Reply}
 use Rattle.desk_text.specs.Account.{history_text}
 use Rattle.match_play.specs.Matches.{IsEndedRecord}
 
--- a match's record as a line, then its history as text if that was asked for
+-- a match's record as a line, followed by its history as text if the call log is asked for
 abbrev pub match_text : List ℕ → List (Entry Call Reply) → Bool → List ℕ
 match_text line history has_account = line ++ line_feed ∷ (if has_account then history_text history else [])
 
--- The text is the output of the first match of some desk with described games. The match is over, and the line is its record. This
--- legal history from the opening leads to the desk.
+-- The text is the output of the first match of some desk with described games. The match is over, and its record is the first line. This
+-- legal history leads from the opening to the desk.
 pub record IsEndedMatch (text : List ℕ) : Type 0 where
   pub desk : ManagerValue PackedGame _
   pub line : List ℕ

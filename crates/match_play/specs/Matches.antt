@@ -12,12 +12,12 @@ use Rattle.match_workers.specs.declared.refereeing.RefereeFault.TheVariants.{Ref
 use Rattle.match_play.specs.declared.playing.MatchFault.{MatchFault}
 use Rattle.match_play.specs.declared.playing.MatchFault.TheVariants.{Memory, Refused, NotEnded, Shortage}
 
--- this is the desk's first match, and it is over
+-- this is the first match of the desk, and it is over
 pub record HasEndedMatch {G S M : Type 0} (rules : G → Rules S M) (d : ManagerValue G M) (held : GameMatch G M) : Type 0 where
   pub is_first : option_and_then (game_match d) (slice_get d.matches 0) ≡ Some held
   pub over : is_over (rules held.game) held.value ≡ true
 
--- the text is the record of the desk's first match, which is over, and it is a lawful record of that match's game
+-- the desk's first match is over; the text is the record of this match, and a lawful record of the match's game
 pub record IsEndedRecord {G S M : Type 0} (rules : G → Rules S M) (d : ManagerValue G M) (text : List ℕ) : Type 0 where
   pub held : GameMatch G M
   pub ended : HasEndedMatch rules d held
@@ -28,7 +28,7 @@ pub record IsEndedRecord {G S M : Type 0} (rules : G → Rules S M) (d : Manager
 abbrev pub HasNoEndedMatch : {G S M : Type 0} → (G → Rules S M) → ManagerValue G M → Type 0
 HasNoEndedMatch rules d = IfSome (option_and_then (game_match d) (slice_get d.matches 0)) (λ held. is_over (rules held.game) held.value ≡ false)
 
--- why a match has no record after this error of its referee
+-- why a match has no record if its referee has this error
 abbrev pub referee_fault : RefereeFault → MatchFault
 referee_fault (MatchRefused reason) = Refused reason
 referee_fault Unclosed = NotEnded

@@ -31,7 +31,7 @@ pub record IsSetupOf (plan : MatchPlan) (setup : Setup) : Type 0 where
   pub strikes : setup.strikes ≡ plan.strikes
   pub names : setup.players ≡ map (λ p. p.name.now) plan.players.items
 
--- a role of the match that is planned at this index, in a game with this longest move
+-- a role of the match that is planned at this index; the game's longest move has this length
 abbrev pub role_place : ℕ → ℕ → MatchPlan → ℕ → RolePlace
 role_place longest place plan role = record { place = place; id = plan.id; role = role; longest_move = longest }
 
@@ -44,7 +44,7 @@ pub record AreReached {P : Type 0} (is_reached : RolePlace → PlayerAddress →
 abbrev pub packed_refusal : PackedGame → Setup → Option Refusal
 packed_refusal game setup = match_refusal (λ g. loaded_game (tables_of g)) game setup
 
--- A match of this game was opened with this setup and played by these players, who got these printed rules. This text is its record, and
+-- A match of this game was opened with this setup and played by these players, who got these printed rules. The text is its record, and
 -- this is the history of its desk.
 pub record IsPlayedMatch {P : Type 0} (handed : P → Option (List Handed)) (game : PackedGame) (rules : List ℕ) (tries : ℕ) (setup : Setup) (players : List P) (text : List ℕ) (history : List (Entry Call Reply)) : Type 0 where
   pub desk : ManagerValue PackedGame _
@@ -55,8 +55,8 @@ pub record IsPlayedMatch {P : Type 0} (handed : P → Option (List Handed)) (gam
   pub left : List P
   pub refereed : IsRefereed (λ g. loaded_game (tables_of g)) handed game setup rules tries players left desk history made_by_line ends
 
--- A match of this game was opened with this setup and played by these players, who got these printed rules. It is over, and `IsSo` holds
--- for it.
+-- A match of this game was opened with this setup and played by these players, who got these printed rules. The match is over, and `IsSo`
+-- holds for it.
 pub record IsEndedWith {P : Type 0} (handed : P → Option (List Handed)) (game : PackedGame) (rules : List ℕ) (tries : ℕ) (setup : Setup) (players : List P) (IsSo : GameMatch PackedGame GroundMove → Type 0) : Type 0 where
   pub desk : ManagerValue PackedGame GroundMove
   pub held : GameMatch PackedGame GroundMove
@@ -68,8 +68,8 @@ pub record IsEndedWith {P : Type 0} (handed : P → Option (List Handed)) (game 
   pub left : List P
   pub refereed : IsRefereed (λ g. loaded_game (tables_of g)) handed game setup rules tries players left desk history made_by_line ends
 
--- A match of this game was played as planned at this index. Its players were reached at the addresses of their roles, and got the game's
--- rules. This text is its record, and this is the history of its desk.
+-- A match of this game was played as the plan at this index says. Its players were reached at the addresses of their roles, and got the
+-- game's rules. The text is its record, and this is the history of its desk.
 abbrev pub IsPlannedMatch : {P : Type 0} → (RolePlace → PlayerAddress → P → Type 0) → (P → Option (List Handed)) → PlayableGame → ℕ → MatchPlan → List ℕ → List (Entry Call Reply) → Type 0
 IsPlannedMatch {P} is_reached handed game place plan text history = (setup : _) × IsSetupOf plan setup × (players : List P) × AreReached is_reached game.longest_move place plan players
     × IsPlayedMatch handed game.game.now game.rules.now max_tries setup players text history

@@ -20,7 +20,7 @@ use std::alloc::{AllocError, Global};
 pub struct PlayableGame<'g> {
     pub game: &'g PackedGame,
     pub rules: &'g PrintedRules,
-    /// The length in bytes of the game's longest move that fits into an answer, and at least 64.
+    /// The length in bytes of the game's longest move that fits into an answer, or 64 if that is more.
     pub(crate) longest_move: usize,
 }
 
@@ -39,10 +39,11 @@ impl<'g> PlayableGame<'g> {
     }
 }
 
-/// The least value of `longest_move` in bytes, so that answers may have some extra spaces even in a game with shorter moves.
+/// The smallest value of `longest_move`, in bytes. It leaves room for extra spaces in answers even if all moves of the
+/// game are shorter.
 const SHORT_MOVE: usize = 64;
 
-/// The length of the longest move that fits into an answer, and at least `SHORT_MOVE`.
+/// The length of the longest move that fits into an answer, or `SHORT_MOVE` if that is more.
 fn longest_move(game: &PackedGame) -> usize
     ensures { IsLongestMove (loaded_game (tables_of game.now)) result }
 {
@@ -64,8 +65,8 @@ pub fn own_rules(alloc: Global, game: &PackedGame) -> Result<PrintedRules, Alloc
     PrintedRules::of(alloc, game.description())
 }
 
-/// Prints the sentences of another description in lower case. Players get them instead of the game's own. The error is the first
-/// error of the text as KIF, or `Memory`.
+/// Prints the sentences of another description in lower case. Players get them instead of the game's own sentences. The
+/// error is the first error of the text as KIF, or `Memory`.
 pub fn other_rules(alloc: Global, text: &[u8]) -> Result<PrintedRules, KifFault>
     ensures spelled { IfOk result (λ printed. (sentences : Expressions) × SpellsAll text.now sentences × (printed ≡ rules_text (all_folded sentences))) }
     ensures fault { IfErr result (IsFault any_number text.now) }

@@ -30,7 +30,7 @@ use std::sync::Wait;
 use std::thread::Threads;
 use thiserror::Error;
 
-/// The limit of a role's `Next` calls. No match needs that many, whatever its clocks (`docs/COMMANDS.md`).
+/// The limit of a role's `Next` calls. No match needs so many, whatever its clocks (`docs/COMMANDS.md`).
 const MAX_TRIES: u64 = 1_000_000_000;
 
 /// Why a match has no record.
@@ -39,7 +39,7 @@ pub enum MatchFault {
     /// The desk refused to open the match.
     #[error("refused {}", refusal_word(*.0))]
     Refused(Refusal),
-    /// The match has neither finished nor been aborted, or its desk was full or did not close.
+    /// The match neither finished nor was aborted, or its desk was full or did not close.
     #[error("match not ended")]
     NotEnded,
     /// The referee lacked this resource in the match, so a wrong or missing answer may not be the player's fault.
@@ -137,7 +137,7 @@ pub struct PreparedMatch<P> {
     ghost one_each: { vec_len players ≡ length setup.players },
 }
 
-/// Makes the setup and the players of the match that is planned at this index. The error is out of memory.
+/// Makes the setup and the players of the match that is planned at this index. The only error is out of memory.
 pub fn prepared_match<S: Reach>(
     alloc: Global,
     reach: &S,
@@ -183,7 +183,8 @@ fn ended_record<G: Game>(alloc: Global, refereed: &Refereed<G>) -> Result<Text, 
     Ok(record)
 }
 
-/// The output of a match that was played to its end: its record as a line, then its call log if that was asked for.
+/// The output of a match that was played to its end: its record as a line, followed by its call log if that is asked
+/// for.
 #[derive(Drop)]
 pub struct EndedMatch {
     pub text: Text,
@@ -197,7 +198,7 @@ fn had_memory(ends: &[Result<u64, AttendFault>]) -> bool
         .all(|end| !matches!(end, Err(AttendFault::Memory)))
 }
 
-/// Whether the match is not over, and a role's worker ran out of memory.
+/// Whether the match is not over and a role's worker ran out of memory.
 fn ran_out_of_memory<G: Game>(refereed: &Refereed<G>) -> bool
     ensures short { IsTrue result → HasNoEndedMatch G.rules refereed.now.closed.object × (¬ (All (λ end. end ≢ Err AttendFault.Memory) refereed.now.ends.items)) }
     ensures whole { IsFalse result → HasNoEndedMatch G.rules refereed.now.closed.object → All (λ end. end ≢ Err AttendFault.Memory) refereed.now.ends.items }
@@ -205,8 +206,8 @@ fn ran_out_of_memory<G: Game>(refereed: &Refereed<G>) -> bool
     ended_match_of(refereed).is_none() && !had_memory(&refereed.ends)
 }
 
-/// Referees a match, and returns the closed desk. The error is `Shortage` if the referee lacked a resource in the match.
-/// The error is also `Memory` if the match did not end because a role's worker ran out of memory.
+/// Referees a match, and returns the closed desk. If the referee lacked a resource in the match, the error is
+/// `Shortage`. If the match did not end because a role's worker ran out of memory, the error is `Memory`.
 fn refereed_match<'g, R, S: Reach + ReportsShortages>(
     rt: &R,
     alloc: Global,
@@ -221,10 +222,10 @@ where
     ensures refereed { IfOk result (λ r. (left : List _) × IsRefereed ⟦<PackedGame as Game>⟧.rules S.Player.handed game.entry.game.now prepared.setup game.entry.rules.now max_tries prepared.players.items left
         r.closed.object r.closed.history.items r.closed.made_by_line.items r.ends.items) }
 
-    // Even if a role's worker ran out of memory, the match is over.
+    // If this returns a desk although a role's worker ran out of memory, the match is over.
     ensures whole { IfOk result (λ r. HasNoEndedMatch ⟦<PackedGame as Game>⟧.rules r.closed.object → All (λ end. end ≢ Err AttendFault.Memory) r.ends.items) }
 
-    // If the desk refuses the match, the error has the desk's reason, or is out of memory. No other error is a refusal.
+    // If the desk refuses the match, the error has the desk's reason or is out of memory. No other error is a refusal.
     ensures opens { OnOk result (packed_refusal game.entry.game.now prepared.setup ≡ None) }
     ensures refused { IfErr result (λ fault. fault ≢ MatchFault.Memory → reason_of fault ≡ packed_refusal game.entry.game.now prepared.setup) }
 {
@@ -299,7 +300,7 @@ where
     ensures clear { IfOk result (λ told. S.is_clear reach.now prepared.place) }
     ensures told { IfOk result (λ told. IsEndedWith S.Player.handed game.entry.game.now game.entry.rules.now max_tries prepared.setup prepared.players.items (λ held. T.is_told reader.now held told)) }
 
-    // If the desk refuses the match, the error has the desk's reason, or is out of memory. No other error is a refusal.
+    // If the desk refuses the match, the error has the desk's reason or is out of memory. No other error is a refusal.
     ensures opens { OnOk result (packed_refusal game.entry.game.now prepared.setup ≡ None) }
     ensures refused { IfErr result (λ fault. fault ≢ MatchFault.Memory → reason_of fault ≡ packed_refusal game.entry.game.now prepared.setup) }
 {
@@ -339,7 +340,7 @@ where
     ensures clear { IfOk result (λ e. S.is_clear reach.now prepared.place) }
     ensures played { IfOk result (λ e. (line : List ℕ) × (history : List (Entry DeskCall DeskReply)) × IsPlayedMatch S.Player.handed game.entry.game.now game.entry.rules.now max_tries prepared.setup prepared.players.items line history × (e.text ≡ match_text line history has_account)) }
 
-    // If the desk refuses the match, the error has the desk's reason, or is out of memory. No other error is a refusal.
+    // If the desk refuses the match, the error has the desk's reason or is out of memory. No other error is a refusal.
     ensures opens { OnOk result (packed_refusal game.entry.game.now prepared.setup ≡ None) }
     ensures refused { IfErr result (λ fault. fault ≢ MatchFault.Memory → reason_of fault ≡ packed_refusal game.entry.game.now prepared.setup) }
 {

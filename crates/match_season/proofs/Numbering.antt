@@ -1,4 +1,4 @@
--- The numbers of a match's players, as player after player gets a number, and as addresses are appended.
+-- The numbers of a match's players. Each player gets a number in turn, and new addresses are appended.
 use Rattle.std.proofs.Common.{◌≡◌, ℕ, ◌+◌, ◌<◌, ◌≤◌, min, Bool, true, false, cond, Bor, List, [], ◌∷◌, ◌++◌, take, length, get_or, map, All, refl, sym, ◌∙◌, ap, subst, arith, inl, inr}
 use Rattle.std.specs.Prelude.{◌==◌, if◌then◌else◌, not}
 use Rattle.std.specs.List.{AllZip, list_any, position_or_len}

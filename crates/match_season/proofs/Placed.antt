@@ -1,4 +1,4 @@
--- Results at the indices of their matches, and settling matches in their order.
+-- Results at the indices of their matches, and matches that are settled in order.
 use Rattle.std.proofs.Common.{◌≡◌, ℕ, zero, suc, ◌+◌, ◌-◌, ◌≤◌, Bool, true, Option, None, Some, List, set, length, get_or, replicate, sym, ◌∙◌, ap, subst, arith, inl, inr}
 use Rattle.std.specs.Prelude.{slice_set}
 use Rattle.std.proofs.lemmas.Bool.{cases_eq, cases_lt}

@@ -1,4 +1,4 @@
--- The waiting matches: the first one that can begin, the position of one that waits again, and appending one.
+-- The waiting matches: the first one that can begin, the position of a match that waits again, and appending a match.
 use Rattle.std.proofs.Common.{◌≡◌, ◌++◌, [], ◌∷◌, ℕ, ◌+◌, ◌<◌, ◌≤◌, min, Bool, true, false, cond, List, Option, Some, None, All, HoldsAt, IfSome, IfNone, MatchOption, get_or, slice_get, take, length, deque_len, sym, ◌∙◌, ap, subst, inl, inr, arith, length-take, get_or-take, lt-ltb, le-ltb, unwrap_or}
 use Rattle.std.specs.Prelude.{◌↔◌, ◌==◌, is_some, nat_lt, not, position}
 use Rattle.std.specs.List.{AllWithin}

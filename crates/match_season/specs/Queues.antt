@@ -8,7 +8,7 @@ use Rattle.match_plans.specs.declared.plan.MatchPlan.{MatchPlan}
 use Rattle.match_season.specs.declared.queue.WaitingMatch.{WaitingMatch}
 use Rattle.match_season.specs.declared.queue.MatchQueue.{MatchQueue}
 
--- the list already had the number, or the number was appended
+-- the number is appended to the list, unless the list already has it
 abbrev pub ListsOnce : List ℕ → List ℕ → ℕ → Type 0
 ListsOnce old new number =
     ((list_any (λ it. it == number) old ≡ true) × (new ≡ old)) ⊎ ((list_any (λ it. it == number) old ≡ false) × (new ≡ old ++ number ∷ []))
@@ -23,11 +23,11 @@ is_at player address = bytes_eq player.host.now address.0.now && (player.port ==
 abbrev pub number_of : Addresses → PlayerAddress → ℕ
 number_of addresses player = position_or_len (is_at player) addresses
 
--- addresses may have been appended
+-- some addresses may have been appended
 abbrev pub Lengthens : Addresses → Addresses → Type 0
 Lengthens old new = (more : Addresses) × (new ≡ old ++ more)
 
--- Each of these players has fewer running matches than the limit. The list has the count of each player's running matches, by the
+-- Each of these players has fewer running matches than the limit. The list has the number of running matches of each player, indexed by the
 -- player's number.
 abbrev pub are_free : List ℕ → ℕ → List ℕ → Bool
 are_free sitting concurrent players = list_all (λ player. nat_lt (get_or sitting player 0) concurrent) players
@@ -45,7 +45,7 @@ pub record AreNumbersOf (addresses : Addresses) (players : List PlayerAddress) (
   pub listed : All (λ player. number_of addresses player < length addresses) players
   pub once : (number : ℕ) → times numbers number ≡ min 1 (times (map (number_of addresses) players) number)
 
--- Each of these players has one more running match, up to the limit of the count. The counts of other players stay the same.
+-- Each of these players has one more running match, unless the count is at its maximum. The counts of other players stay the same.
 abbrev pub SitDown : List ℕ → List ℕ → List ℕ → Type 0
 SitDown old new players =
     (length new ≡ length old)
@@ -62,7 +62,7 @@ pub record AllWait (queue : MatchQueue) (plans : List MatchPlan) : Type 0 where
   pub numbered : AllZip (λ plan waiting_match. AreNumbersOf addresses plan.players.items waiting_match.players.items) plans queue.waiting.items
   pub nobody_sits : queue.sitting.items ≡ replicate (length addresses) 0
 
--- The first waiting match whose players are all free begins. The others stay in their order, and each player of this match has one more
+-- The first waiting match whose players are all free begins. The other matches stay in order, and each player of this match has one more
 -- running match.
 pub record Begins (old new : MatchQueue) (first : WaitingMatch) : Type 0 where
   pub at : ℕ
@@ -77,6 +77,6 @@ pub record Begins (old new : MatchQueue) (first : WaitingMatch) : Type 0 where
 abbrev pub turn_of : List WaitingMatch → ℕ → ℕ
 turn_of waiting place = position_or_len (λ it. nat_lt place it.place) waiting
 
--- the waiting matches and this one, in the order of the schedule
+-- the waiting matches and this match, in the order of the schedule
 abbrev pub with_match : List WaitingMatch → WaitingMatch → List WaitingMatch
 with_match waiting waiting_match = insert waiting (turn_of waiting waiting_match.place) waiting_match

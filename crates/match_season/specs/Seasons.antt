@@ -35,11 +35,11 @@ mark settled place = if get_or settled place false then 1 else 0
 abbrev pub places_of : {T E : Type 0} → Written → ℕ → Result T E → List ℕ
 places_of written place outcome = if is_ok outcome && is_open written.is_settled.items place then place ∷ [] else []
 
--- this many more records are counted, up to the limit of the count
+-- this many more records are counted, unless the count is at its maximum
 abbrev pub Counts : Written → Written → ℕ → Type 0
 Counts old new more = old.records + more < 2 ^ 64 → new.records ≡ old.records + more
 
--- the match with this index and no other becomes settled, and this many more records are counted
+-- the match with this index, and no other, becomes settled; this many more records are counted
 pub record Settles (old new : Written) (place more : ℕ) : Type 0 where
   pub settled : new.is_settled.items ≡ slice_set old.is_settled.items place true
   pub counted : Counts old new more
@@ -68,8 +68,8 @@ abbrev pub Rises : ℕ → List ℕ → ℕ → Type 0
 Rises low [] high = low ≤ high
 Rises low (place ∷ places) high = (low ≤ place) × Rises (place + 1) places high
 
--- The outputs of matches were written in this order, each once. These matches were not settled before, and are settled afterwards. The
--- count of records grows by their number.
+-- The outputs of matches were written in this order, each once. The matches were not settled before, and are settled afterwards. The count
+-- of records grows by the number of these matches.
 pub record WritesMore (IsOutput : ℕ → List ℕ → Type 0) (InOrder : List ℕ → Type 0) (before after : Written) (old new : Option (List ℕ)) : Type 0 where
   pub places : List ℕ
   pub in_order : InOrder places
@@ -79,8 +79,8 @@ pub record WritesMore (IsOutput : ℕ → List ℕ → Type 0) (InOrder : List �
   pub counted : Counts before after (length places)
   pub same_places : length after.is_settled.items ≡ length before.is_settled.items
 
--- The same, and then a prefix of the output of one more match was written. That match was not settled before. The order includes its
--- index.
+-- The same, and then a prefix of the output of one more match was written. That match was not settled before. Its index is the last one of
+-- the order.
 pub record WritesMoreAndPart (IsOutput : ℕ → List ℕ → Type 0) (InOrder : List ℕ → Type 0) (before : Written) (old new : Option (List ℕ)) : Type 0 where
   pub last : ℕ
   pub between : Written
@@ -89,7 +89,7 @@ pub record WritesMoreAndPart (IsOutput : ℕ → List ℕ → Type 0) (InOrder :
   pub was_open : is_open between.is_settled.items last ≡ true
   pub part : WritesPart IsOutput last middle new
 
--- The outputs of all but `missing` matches were written, each once, in the order of the schedule if that was asked for.
+-- The outputs of all but `missing` matches were written, each once, and in the order of the schedule if that is asked for.
 pub record WritesAllBut (IsOutput : ℕ → List ℕ → Type 0) (order : RecordOrder) (missing all : ℕ) (old new : Option (List ℕ)) : Type 0 where
   pub places : List ℕ
   pub others : length places + missing ≡ all
@@ -97,8 +97,8 @@ pub record WritesAllBut (IsOutput : ℕ → List ℕ → Type 0) (order : Record
   pub in_order : order ≡ OfSchedule → Rises 0 places all
   pub written : WritesMatches IsOutput places old new
 
--- The outputs of the matches with these indices were written, and then a prefix of the output of one more match. Each index occurs once,
--- and they are in the order of the schedule if that was asked for.
+-- The outputs of the matches with these indices were written, and then a prefix of the output of one more match. Each index occurs once.
+-- They are in the order of the schedule if that is asked for.
 pub record WritesSomeAndPart (IsOutput : ℕ → List ℕ → Type 0) (order : RecordOrder) (all : ℕ) (old new : Option (List ℕ)) : Type 0 where
   pub places : List ℕ
   pub last : ℕ
@@ -108,12 +108,12 @@ pub record WritesSomeAndPart (IsOutput : ℕ → List ℕ → Type 0) (order : R
   pub written : WritesMatches IsOutput places old middle
   pub part : WritesPart IsOutput last middle new
 
--- before a write fault, whole outputs and a part of one more were written; before an out-of-memory error, nothing was written
+-- before a write fault, whole outputs and a part of one more output were written; before an out-of-memory error, nothing was written
 abbrev pub WritesUpTo : (ℕ → List ℕ → Type 0) → RecordOrder → ℕ → Option (List ℕ) → Option (List ℕ) → SeasonFault → Type 0
 WritesUpTo IsOutput order all old new WriteFault = WritesSomeAndPart IsOutput order all old new
 WritesUpTo IsOutput order all old new Memory = new ≡ old
 
--- one more failed write is counted for a write fault, and none for an out-of-memory error
+-- a write fault adds one failed write to the count, and an out-of-memory error adds none
 abbrev pub faults_by : SeasonFault → ℕ → ℕ
 faults_by WriteFault faults = one_more faults
 faults_by Memory faults = faults

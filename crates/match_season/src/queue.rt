@@ -43,7 +43,7 @@ fn address<'a>(player: &PlayerAddress<'a>) -> (&'a str, u16)
     (player.host, player.port)
 }
 
-/// The index of a player's address in `addresses`. Appends the address if it is new.
+/// The index of a player's address in `addresses`. Appends the address if `addresses` does not have it yet.
 fn number_of<'a>(
     addresses: &mut IndexSet<(&'a str, u16)>,
     player: &PlayerAddress<'a>,
@@ -214,7 +214,7 @@ impl MatchQueue {
         unseat_all(&mut self.sitting, &waiting_match.players);
     }
 
-    /// The number of waiting matches that come before this index in the schedule.
+    /// The number of waiting matches that are earlier in the schedule than this index.
     fn place_of(&self, place: usize) -> usize
         ensures turn { result ≡ turn_of self.now.waiting.items place }
         ensures within { result ≤ deque_len self.now.waiting }

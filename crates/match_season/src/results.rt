@@ -1,4 +1,4 @@
-//! The results of matches that the threads of a season send.
+//! The results of matches, which the threads of a season send.
 ghost use Rattle.std.specs.Prelude.{ℕ, List};
 ghost use Rattle.std.specs.Result.{ForOk};
 
@@ -8,8 +8,8 @@ use match_play::{EndedMatch, MatchFault};
 use std::marker::{Brand, PhantomData};
 use std::sync::Wait;
 
-/// Names the outputs of one season. Each season chooses its own brand, because a contract cannot name what another thread
-/// sends.
+/// Names the outputs of one season. A contract cannot name what another thread sends, so each season chooses a separate
+/// brand.
 pub trait OutputBrand {
     /// The text is the output of the match with this index in the schedule.
     ghost is_output: { ℕ → List ℕ → Type 0 };
@@ -21,7 +21,7 @@ impl OutputBrand for Brand {
     ghost is_output = { λ place text. ⊤ };
 }
 
-/// The result of a match with this index in the schedule: its output, or why it has no record.
+/// The result of the match with this index in the schedule: its output, or why it has no record.
 #[derive(Drop)]
 pub struct MatchResult<N: OutputBrand> {
     pub place: usize,
@@ -34,7 +34,8 @@ pub struct MatchResult<N: OutputBrand> {
 #[derive(Drop)]
 pub struct Results<'r, N: OutputBrand> {
     pub receiver: &'r Receiver<MatchResult<N>>,
-    /// Whether all senders are gone, so that no more results can come. A season keeps a sender until its end, so this never happens in a season.
+    /// Whether all senders are gone, so that no more results can come. In a season this never happens, because the
+    /// season keeps a sender until its end.
     pub is_closed: bool,
 }
 

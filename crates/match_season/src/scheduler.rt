@@ -1,4 +1,4 @@
-//! Shares the waiting matches of a season among its threads.
+//! Distributes the waiting matches of a season among its threads.
 ghost use Rattle.std.specs.Prelude.{◌≡◌, ◌+◌, ◌-◌, ◌^◌, [], false, true, All, IfNone, IfSome, min};
 ghost use Rattle.match_season.specs.Queues.{Begins, IsBusy, StandUp};
 ghost use Rattle.match_season.specs.Scheduling.{Ends};
@@ -8,17 +8,18 @@ use std::sync::atomic::AtomicU64;
 use std::sync::{Condvar, Mutex, Wait};
 use std::time::Duration;
 
-/// The pause, in milliseconds, before the only thread tries a match again. By then the system has reclaimed what ended threads held.
+/// How many milliseconds the only thread pauses before it tries a match again. By then, the system has reclaimed the
+/// resources of ended threads.
 const REST: u64 = 500;
 
 /// What a thread does after a match.
 #[derive(Clone, Copy)]
 pub enum AfterMatch {
-    /// It sends the result, and begins another match.
+    /// The thread sends the result, and begins another match.
     Report,
-    /// It begins another match after the pause. Its own match waits again.
+    /// The thread begins another match after the pause. The match that it played waits again.
     Retry,
-    /// The thread ends, so that one fewer match is played at once. Its own match waits again.
+    /// The thread ends, so that one fewer match is played at once. The match that it played waits again.
     EndThread,
 }
 
@@ -27,7 +28,7 @@ pub enum AfterMatch {
 struct SchedulerState {
     queue: MatchQueue,
     threads: usize,
-    /// Whether the only thread has paused because memory or threads ran out, and every match that has ended since then
+    /// Whether the only thread has paused because memory or threads ran out, and each match that has ended since then
     /// ran out of them too.
     has_rested: bool,
     /// Whether no more matches may begin.
@@ -48,7 +49,7 @@ impl SchedulerState {
         }
     }
 
-    /// Counts one more thread. The only thread may then pause again.
+    /// Counts one more thread. After this, the only thread may pause again.
     fn enter(&mut self)
         ensures { self.new ≡ record self.old { threads = min (self.old.threads + 1) (2 ^ 64 - 1); has_rested = false } }
     {
@@ -70,8 +71,8 @@ impl SchedulerState {
         begun
     }
 
-    /// Ends a match. If it ran out of memory or threads, it waits again, unless the only thread has already paused or no more matches may
-    /// begin.
+    /// Ends a match. If the match ran out of memory or threads, it waits again, unless the only thread has already
+    /// paused or no more matches may begin.
     fn end(&mut self, waiting_match: WaitingMatch, is_short: bool) -> AfterMatch
         ensures stand { StandUp self.old.queue.sitting.items self.new.queue.sitting.items waiting_match.players.items }
         ensures same { self.new.is_closed ≡ self.old.is_closed }
@@ -105,12 +106,12 @@ impl SchedulerState {
     }
 }
 
-/// Where the threads of a season begin and end their matches.
+/// The place where the threads of a season begin and end their matches.
 #[derive(Drop)]
 pub struct Scheduler {
     state: Mutex<SchedulerState>,
     changed: Condvar,
-    /// The paused thread sleeps on this value. No thread wakes it.
+    /// The thread that pauses sleeps on this value. No other thread wakes it.
     rest: AtomicU64,
 }
 
@@ -129,13 +130,13 @@ impl Scheduler {
         self.state.lock(rt).enter();
     }
 
-    /// Waits until a match can begin, and begins it. Returns `None` if no match waits; then the thread must end.
+    /// Waits until a match can begin, and begins it. Returns `None` if no match waits; the thread must then end.
     pub fn begin<R: Wait>(&self, rt: &R) -> Option<WaitingMatch> {
         let mut state = self
             .changed
             .wait_while(rt, self.state.lock(rt), |state| state.queue.has_to_wait());
         let begun = state.begin();
-        // Another match may be able to begin too. If none waits, all threads must end.
+        // Another match may be able to begin too. If no match waits, all threads must end.
         if state.queue.is_empty() {
             self.changed.notify_all();
         } else {
@@ -144,7 +145,7 @@ impl Scheduler {
         begun
     }
 
-    /// Ends a match, and wakes a waiting thread. `is_short` says that the match ran out of memory or threads.
+    /// Ends a match, and wakes a waiting thread. `is_short` says whether the match ran out of memory or threads.
     pub fn end<R: Wait>(&self, rt: &R, waiting_match: WaitingMatch, is_short: bool) -> AfterMatch {
         let next = self.state.lock(rt).end(waiting_match, is_short);
         self.changed.notify_one();
@@ -154,7 +155,7 @@ impl Scheduler {
         next
     }
 
-    /// Prevents further matches from beginning.
+    /// Lets no further match begin.
     pub fn close<R: Wait>(&self, rt: &R) {
         self.state.lock(rt).close();
         self.changed.notify_all();

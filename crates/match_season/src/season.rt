@@ -83,7 +83,7 @@ where
         )
     }
 
-    /// Plays matches until none waits, and sends their results.
+    /// Plays matches until no match waits, and sends their results.
     fn play_matches<R>(&self, rt: &R, sender: &Sender<MatchResult<N>>)
     where
         R: Threads + Wait + Sync,
@@ -112,8 +112,8 @@ where
         }
     }
 
-    /// Writes the results as they come, and reports the matches without a record. After a failed write no more matches begin. Returns the
-    /// number of matches without a record.
+    /// Writes the results as they come, and reports the matches without a record. After a failed write, no more matches
+    /// begin. Returns the number of matches without a record.
     fn write_played<R: Wait, W: Write, E: ReportsMissing>(
         &self,
         around: &SeasonSurroundings<'_, '_, R, S, E>,
@@ -163,12 +163,12 @@ where
     }
 }
 
-/// Proves that threads may share the value, from the bound of `T`. The contract of a closure needs this fact.
+/// Proves from the bound of `T` that threads may share the value. The contract of a closure needs this fact.
 fn is_shared<T: Sync>(_value: &T)
     ensures { IsSync T.row }
 {}
 
-/// The number of threads to start for this number of matches.
+/// How many threads to start for this number of matches.
 fn threads_for(form: SeasonForm, matches: usize) -> usize
     ensures { result ≡ min form.at_once matches }
 {
@@ -205,7 +205,7 @@ where
             ensures at_fault { IfErr result.0 (WritesUpTo N.is_output season.entry.now.form.order (length season.entry.now.plans.now) (W.contents writer.entry.now.stream) (W.contents result.1.now.stream)) }
             ensures faults { result.1.now.faults ≡ faults_after result.0 writer.entry.now.faults }
         {
-            // Allocated before any match begins, because no result could be written without it.
+            // This is allocated before any match begins, because no result could be written without it.
             let Ok(nothing) = Written::nothing(season.alloc, season.plans.len()) else {
                 return (Err(SeasonFault::Memory), writer);
             };
@@ -256,19 +256,19 @@ where
     play_in_threads(around, &season, &sender, &receiver, writer)
 }
 
-/// Plays the matches of a schedule in threads. All are matches of the same game. Writes the record of each, followed by
-/// its call log if the form asks for it. Returns the number of matches without a record.
+/// Plays the matches of a schedule in threads. All matches are of the same game. Writes the record of each match,
+/// followed by its call log if the form asks for it. Returns the number of matches without a record.
 ///
 /// A match begins when all earlier matches of the schedule have begun, except those with a player that has reached its
-/// limit of running matches. A match that runs out of memory or threads waits again, and from then on one fewer match is
-/// played at once. If only one match is played at once, the season pauses for half a second before it tries a match again.
-/// A match that runs out again after this pause has no record. The season pauses again only after a match that did not
-/// run out.
+/// limit of running matches. A match that runs out of memory or threads waits again, and from then on one fewer match
+/// is played at once. If only one match is played at once, the season instead pauses for half a second before it tries
+/// a match again. A match that runs out again after this pause has no record. The season pauses again only after a
+/// match that did not run out.
 ///
-/// If there is no memory for counting the records, or not even one thread can be started, no match begins and the result
-/// is `Memory`. Otherwise each match without a record is reported. After a failed write no more matches begin. The output
-/// then ends with a part of the output of one match; this part may be empty or complete. If the result is `Memory`,
-/// nothing was written.
+/// If there is no memory for counting the records, or not even one thread can be started, no match begins and the
+/// result is `Memory`. Otherwise the season reports each match without a record. After a failed write, no more matches
+/// begin. The output then ends with a part of the output of one match; this part may be empty or complete. If the
+/// result is `Memory`, nothing was written.
 pub fn play_season<'f, 'a, R, S, W: Write, E: ReportsMissing + Send>(
     around: &SeasonSurroundings<'f, '_, R, S, E>,
     game: PlayableGame<'f>,

@@ -70,7 +70,7 @@ impl<R: Wait, E: ReportsMissing> Reports<'_, '_, '_, '_, R, E> {
         }
     }
 
-    /// Reports `no record` for each match that was neither written nor reported.
+    /// Reports `no record` for each match that was neither written nor reported before.
     pub fn report_rest(&self, written: &Written) {
         for (place, is_settled) in written.is_settled.iter().enumerate() {
             if !*is_settled {
@@ -130,7 +130,8 @@ fn write_outcome<N: OutputBrand, R: Wait, W: Write, E: ReportsMissing>(
     }
 }
 
-/// Writes the stored results from the index `next` up to the first match that is not over. Returns the index of that match.
+/// Writes the stored results, from the index `next` up to the first match that is not over. Returns the index of that
+/// match.
 fn write_waiting<N: OutputBrand, R: Wait, W: Write, E: ReportsMissing>(
     reports: &Reports<'_, '_, '_, '_, R, E>,
     waiting: &mut [Option<MatchResult<N>>],
@@ -180,7 +181,7 @@ fn none_waiting<N: OutputBrand>(
     Ok(waiting)
 }
 
-/// The index from which stored results are written, after the match with the index `place` is over.
+/// The index from which to write stored results, after the match with the index `place` is over.
 fn first_to_write(order: RecordOrder, next: usize, place: usize) -> usize
     ensures { order ≡ OfSchedule → result ≡ next }
 {
@@ -190,7 +191,7 @@ fn first_to_write(order: RecordOrder, next: usize, place: usize) -> usize
     }
 }
 
-/// Writes the outputs of the matches in this order as their results come.
+/// Writes the outputs of the matches in this order, as their results come in.
 pub fn write_season<N: OutputBrand, R: Wait, W: Write, E: ReportsMissing>(
     alloc: Global,
     order: RecordOrder,

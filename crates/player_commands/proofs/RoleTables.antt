@@ -1,4 +1,4 @@
--- What was written about the roles so far.
+-- The text that was written about the roles so far.
 use Rattle.std.proofs.Common.{◌≡◌, ◌≢◌, ◌∙◌, ◌+◌, ◌<◌, ◌≤◌, ◌++◌, [], ◌∷◌, ℕ, List, Option, ap, arith, length, min, refl, subst, sym, take}
 use Rattle.std.specs.Prelude.{Result, Ok, Err, IfErr, IsErrAnd}
 use Rattle.std.specs.Io.KnownBytes.{Appends}
@@ -21,12 +21,12 @@ use Rattle.player_commands.specs.Tables.{header}
 use Rattle.player_commands.specs.declared.check.CheckFault.{CheckFault}
 use Rattle.player_commands.specs.declared.check.CheckFault.TheVariants as faults
 
--- the text to write before the rows of the next role: the header before the first one
+-- the text to write before the rows of the next role: the header before the first role, otherwise nothing
 abbrev pub waiting : List Told → List ℕ
 waiting [] = header
 waiting (role ∷ roles) = []
 
--- The table of the first roles was written, and this text is to be written next.
+-- The table of the first roles was written, and this text must be written next.
 pub record AreTold {S M : Type 0} (AreTurns : ℕ → List RoleTurn → Type 0) (g : Rules S M) (count bad : ℕ) (old new : Option (List ℕ)) (text : List ℕ) : Type 0 where
   pub written : List ℕ
   pub table : IsTable AreTurns g count bad written
@@ -82,7 +82,7 @@ told-next T g count before now more a b c text rows whole out left so-far told a
   waits = cleared ∙ sym (nothing-waits so-far.table.roles (record { rows = rows; bad = more }));
 }
 
--- If a part of the waiting text and of one more role's rows is written, the output is a prefix of the table with this role.
+-- If a part of the waiting text and of the rows of one more role was written, the output is a prefix of the table with this role.
 pub part-next : {S M : Type 0} (T : ℕ → List RoleTurn → Type 0) (g : Rules S M) (count before more taken : ℕ) (a b c : Option (List ℕ)) (text rows whole out : List ℕ) → count < g.roles → AreTold T g count before a b text
     → IsToldOf (T count) (g.role_name count) rows more → whole ≡ text ++ rows → out ≡ whole → taken ≤ length out → Appends b c (take taken out)
     → (number bad end : ℕ) × (table : List ℕ) × (0 < number) × (number ≤ g.roles) × IsTable T g number bad table × (end ≤ length table) × Appends a c (take end table)

@@ -1,4 +1,4 @@
--- The lines about players that were sent ABORT one after another.
+-- The lines about players that got ABORT one after another.
 use Rattle.std.proofs.Common.{◌≡◌, ◌<◌, ◌+◌, ◌∙◌, ◌∷◌, ◌++◌, ◌&&◌, [], ℕ, Bool, true, false, List, Option, append-nil, ap, get_or, length, map, refl, subst, sym, take}
 use Rattle.std.proofs.KnownBytes.{Appends-nil, Appends-trans}
 use Rattle.std.proofs.lemmas.Bool.{false≢true}

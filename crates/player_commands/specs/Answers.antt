@@ -1,4 +1,4 @@
--- What an exchange shows of a message and its answer.
+-- The parts of a message and its answer that an exchange has.
 use Rattle.std.specs.Prelude.{◌≡◌, ◌↔◌, ℕ, Bool, List, [], IsTrue}
 use mathlib.Core.List.{IsPrefix}
 use Rattle.desk_calls.specs.declared.answer.Answer.{Answer}
@@ -18,7 +18,7 @@ abbrev pub answer_text : Answer → List ℕ
 answer_text (answers.Text text) = text
 answer_text answer = []
 
--- These are the beginnings of a message and of the answer's text, whether the message asks for a move, and what came after it.
+-- The beginning of a message, the beginning of the answer's text, whether the message asks for a move, and what came after it.
 pub record AreOfMessage (message : List ℕ) (is_play : Bool) (answer : List ℕ) (brought : AnswerKind) : Type 0 where
   pub body : List ℕ
   pub given : Answer

@@ -31,16 +31,15 @@ use Rattle.player_commands.specs.declared.watched.CheckedPlayer.{CheckedPlayer}
 abbrev pub match_id : ℕ → List ℕ
 match_id role = codes "check-" ++ decimal role
 
--- A player of this match is watched if and only if it has this role. Then it wraps a player that was reached at the address.
+-- A player of this match is watched if and only if it has this role. Then the player that it wraps was reached at the address.
 abbrev pub is_watched : (H : Type 0) → {P : Type 0} → (RolePlace → PlayerAddress → P → Type 0) → ℕ → RolePlace → PlayerAddress → CheckedPlayer H P → Type 0
 is_watched H is_reached role at address participant = (is_some participant.watched ≡ (at.role == role)) × IfSome participant.watched (is_reached at address)
 
--- the messages to a player of the match: those to the watched player inside it, if there is one
+-- the messages to a player of the match: if it is watched, the messages to the player inside it
 abbrev pub watched_handed : (H : Type 0) → {P : Type 0} → (P → Option (List Handed)) → CheckedPlayer H P → Option (List Handed)
 watched_handed H handed participant = option_and_then handed participant.watched
 
--- A match of this game was played. In this match, the checked player had this role and got the role's messages. These are the role's
--- turns.
+-- A match of this game was played in which the checked player had this role and got the role's messages. These are the role's turns.
 pub record AreTurnsIn (H : Type 0) {P : Type 0} (is_reached : RolePlace → PlayerAddress → P → Type 0) (handed : P → Option (List Handed)) (game : PlayableGame) (plan : CheckPlan) (role : ℕ) (turns : List RoleTurn) : Type 0 where
   pub made : MatchPlan
   pub planned : IsPlanFor plan (match_id role) role (loaded_game (tables_of game.game.now)).roles made
@@ -50,8 +49,8 @@ pub record AreTurnsIn (H : Type 0) {P : Type 0} (is_reached : RolePlace → Play
   pub reached : AreReached (is_watched H is_reached role) game.longest_move 0 made participants
   pub played : ArePlayedTurns (watched_handed H handed) game.game.now game.rules.now max_tries setup participants role turns
 
--- These are the rows, and the number of bad answers, for some exchanges and for the role's turns. Which exchanges there were is not
--- specified.
+-- These are the rows, and the number of bad answers, for some exchanges and for the role's turns. No contract says which exchanges took
+-- place.
 pub record IsToldOf (AreTurns : List RoleTurn → Type 0) (role : List ℕ) (rows : List ℕ) (bad : ℕ) : Type 0 where
   pub exchanges : List Exchange
   pub turns : List RoleTurn
@@ -76,7 +75,7 @@ abbrev pub table_text : List Told → List ℕ
 table_text [] = []
 table_text (role ∷ roles) = header ++ all_rows (role ∷ roles)
 
--- The text is the table of the first `count` roles of a game, in order, and they have this number of bad answers.
+-- The text is the table of the first `count` roles of a game, in order. These roles have this number of bad answers.
 pub record IsTable {S M : Type 0} (AreTurns : ℕ → List RoleTurn → Type 0) (g : Rules S M) (count bad : ℕ) (text : List ℕ) : Type 0 where
   pub roles : List Told
   pub so_many : length roles ≡ count
@@ -95,16 +94,16 @@ module _ (H : Type 0) {P : Type 0} (is_reached : RolePlace → PlayerAddress →
   abbrev pub WritesCheck : ℕ → Option (List ℕ) → Option (List ℕ) → Type 0
   WritesCheck bad old new = (text : List ℕ) × IsTableOf (roles_of game) bad text × Appends old new text
 
-  -- the table of the first roles was written, but not of all roles
+  -- the table of the first roles, but not of all roles, was written
   abbrev pub WritesEarlier : Option (List ℕ) → Option (List ℕ) → Type 0
   WritesEarlier old new = (count bad : ℕ) × (text : List ℕ) × (count < roles_of game) × IsTableOf count bad text × Appends old new text
 
-  -- a prefix of the table of the first roles was written, for one or more roles
+  -- a prefix of the table of the first roles (one or more) was written
   abbrev pub WritesPart : Option (List ℕ) → Option (List ℕ) → Type 0
   WritesPart old new = (count bad taken : ℕ) × (text : List ℕ) × (0 < count) × (count ≤ roles_of game) × IsTableOf count bad text
       × (taken ≤ length text) × Appends old new (take taken text)
 
-  -- what a check that ended early with this fault has written
+  -- the output of a check that ended early with this error
   abbrev pub EndsEarly : CheckFault → Option (List ℕ) → Option (List ℕ) → Type 0
   EndsEarly WriteFault old new = WritesPart old new
   EndsEarly fault old new = WritesEarlier old new

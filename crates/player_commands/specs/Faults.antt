@@ -5,7 +5,7 @@ use Rattle.network_players.specs.declared.contacting.ContactFault.TheVariants.{S
 use Rattle.player_commands.specs.declared.fault.CommandFault.{CommandFault}
 use Rattle.player_commands.specs.declared.fault.CommandFault.TheVariants.{Memory, NoAnswer, NotSent}
 
--- the error names the resource that the referee lacks, if any; any other failure is a missing answer
+-- the error names the resource that the referee lacked; without such a resource, there is no answer
 abbrev pub contact_fault : ContactFault → CommandFault
 contact_fault (ContactShortage MemoryShortage) = Memory
 contact_fault (ContactShortage shortage) = NotSent shortage

@@ -1,4 +1,4 @@
--- Messages to single players, and the output about them.
+-- Messages to single players, and the lines that are written about the players.
 use Rattle.std.specs.Prelude.{◌≡◌, ◌⊎◌, ℕ, Bool, true, false, List, [], ◌∷◌, ◌++◌, Option, codes, flat_map, map}
 use Rattle.std.specs.List.{list_all}
 use Rattle.std.specs.Io.KnownBytes.{Appends}
@@ -47,7 +47,7 @@ unanswered_line name (NotSent shortage) =
     codes "{\"player\":\"" ++ (name ++ (codes "\",\"verdict\":\"not_sent\",\"lacks\":\"" ++ (shortage_word shortage ++ codes "\"}\n")))
 unanswered_line name fault = []
 
--- what was written about a player that gave no answer, or to which nothing was sent: nothing, or one line as JSON
+-- what was written about a player that gave no answer, or to which nothing was sent: one line if the output is JSON, otherwise nothing
 abbrev pub TellsUnanswered : {W : Type 0} → (W → Option (List ℕ)) → Bool → List ℕ → CommandFault → Counting W → Counting W → Type 0
 TellsUnanswered contents true name NoAnswer writer writer' = Appends (contents writer.stream) (contents writer'.stream) (unanswered_line name NoAnswer)
 TellsUnanswered contents true name (NotSent shortage) writer writer' = Appends (contents writer.stream) (contents writer'.stream) (unanswered_line name (NotSent shortage))
@@ -57,7 +57,7 @@ abbrev pub IsInfoOutput : Bool → List ℕ → List ℕ → Type 0
 IsInfoOutput is_json name line = ((answer : List ℕ) × (line ≡ info_line is_json name (info_reading answer)))
     ⊎ ((is_json ≡ true) × ((fault : CommandFault) × (line ≡ unanswered_line name fault)))
 
--- what `info` has written if it fails
+-- what `info` has written when it fails
 abbrev pub InfoFails : {W : Type 0} → (W → Option (List ℕ)) → Bool → List ℕ → CommandFault → Counting W → Counting W → Type 0
 InfoFails contents is_json name fault writer writer' = TellsUnanswered contents is_json name fault writer writer'
     ⊎ ((fault ≡ WriteFault) × ((line : List ℕ) × IsInfoOutput is_json name line × AppendsPart (contents writer.stream) (contents writer'.stream) line))

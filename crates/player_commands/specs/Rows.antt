@@ -5,7 +5,7 @@ use Rattle.player_commands.specs.Verdicts.{verdict_of, is_good}
 use Rattle.player_commands.specs.declared.table.Verdict.{Verdict}
 use Rattle.player_commands.specs.declared.watched.Exchange.{Exchange}
 
--- the turn of the next exchange; only an exchange that asks for a move has one
+-- the turn of the next exchange, if the exchange asks for a move
 abbrev pub next_turn : Bool → List RoleTurn → Option RoleTurn
 next_turn true (turn ∷ turns) = Some turn
 next_turn is_play turns = None
@@ -17,7 +17,7 @@ later_turns is_play turns = turns
 abbrev pub row_verdict : Exchange → Option RoleTurn → Verdict
 row_verdict exchange turn = verdict_of exchange.is_play exchange.brought (option_map (λ (t : RoleTurn). t.error) turn)
 
--- the verdicts on exchanges; those that ask for a move have these turns, in order
+-- the verdicts on the exchanges; the exchanges that ask for a move have these turns, in order
 abbrev pub verdicts : List Exchange → List RoleTurn → List Verdict
 verdicts [] turns = []
 verdicts (exchange ∷ exchanges) turns =

@@ -1,4 +1,4 @@
--- The plan of the match in which the checked player has one of the roles.
+-- The plan of the match in which the checked player has a given role.
 use Rattle.std.specs.Prelude.{◌≡◌, ◌≢◌, ℕ, ◌<◌, List, length, codes, HoldsAt}
 use Rattle.match_plans.specs.declared.addresses.PlayerAddress.{PlayerAddress}
 use Rattle.match_plans.specs.declared.plan.CheckPlan.{CheckPlan}
@@ -7,7 +7,7 @@ use Rattle.match_plans.specs.declared.plan.MatchPlan.{MatchPlan}
 abbrev pub nobody : List ℕ
 nobody = codes "nobody"
 
--- the player of this role is the checked player, and every other player is named `nobody`
+-- the checked player has this role, and the player of every other role is named `nobody`
 pub record AreSeated (player : PlayerAddress) (role roles : ℕ) (players : List PlayerAddress) : Type 0 where
   pub count : length players ≡ roles
   pub seat : role < roles → HoldsAt (λ it. it ≡ player) players role

@@ -16,7 +16,7 @@ played_text (Some turn) = turn.played
 abbrev pub column : List ℕ → List ℕ → List ℕ
 column text columns = text ++ tab ∷ columns
 
--- a row that ends with this explanation of what is wrong
+-- a row whose last column is this explanation of what is wrong
 abbrev pub row_text : List ℕ → Exchange → Option RoleTurn → List ℕ → List ℕ
 row_text role exchange turn words =
     column (shown_text role)
@@ -26,8 +26,8 @@ row_text role exchange turn words =
     (column (shown_text (played_text turn))
     (column (decimal exchange.millis) (words ++ line_feed ∷ []))))))
 
--- The text is the row of an exchange with this turn. The text of its explanation is not specified, but it is empty if there is no fault
--- and the answer was not rejected as a move.
+-- The text is the row of an exchange with this turn. The explanation may be any text, but it is empty if there is no error and the answer
+-- was not rejected as a move.
 pub record IsRow (role : List ℕ) (exchange : Exchange) (turn : Option RoleTurn) (text : List ℕ) : Type 0 where
   pub words : List ℕ
   pub no_words : exchange.fault ≡ None → is_refused (row_verdict exchange turn) ≡ false → words ≡ []

@@ -6,13 +6,13 @@ use Rattle.player_commands.specs.declared.watched.AnswerKind.TheVariants.{Text, 
 use Rattle.player_commands.specs.declared.table.Verdict.{Verdict}
 use Rattle.player_commands.specs.declared.table.Verdict.TheVariants.{Taken, Legal, Illegal, NoMove, Late, Broken, Dropped}
 
--- the verdict, given whether the error is empty, and whether it says that the text is not an expression
+-- the verdict, from two facts: whether the error is empty, and whether it says that the text is not an expression
 abbrev pub judged_as : Bool → Bool → Verdict
 judged_as true b = Legal
 judged_as false true = NoMove
 judged_as false false = Illegal
 
--- the verdict, given the error of the turn if the turn was recorded
+-- the verdict on an answer to PLAY, given the error of its turn, or None if the turn was not recorded
 abbrev pub judged : Option (List ℕ) → Verdict
 judged None = Dropped
 judged (Some error) = judged_as (length error == 0) (bytes_eq error unreadable_text)

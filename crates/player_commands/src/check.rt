@@ -24,8 +24,8 @@ use std::time::Clock;
 use thiserror::Error;
 use whole_streams::{WriteFault, write_all};
 
-/// Why a check did not end. The table has the rows of the earlier matches and, after a write fault, a part of the rows of
-/// the last match.
+/// Why a check ended early. The table has the rows of the earlier matches and, after a write fault, a part of the rows
+/// of the last match.
 #[derive(Clone, Copy, Debug, PartialEq, Eq, Error)]
 pub enum CheckFault {
     /// A match ended without a result, for this reason.
@@ -73,7 +73,7 @@ impl From<WriteFault> for CheckFault {
 /// The name of the players that answer nothing.
 const NOBODY: &str = "nobody";
 
-/// The player with this index in the match in which the checked player has this role.
+/// The player with this index, in the match in which `player` is checked in this role.
 fn seated<'a>(player: PlayerAddress<'a>, role: usize, place: usize) -> PlayerAddress<'a>
     ensures player { place ≡ role → result ≡ player.entry }
     ensures other { place ≢ role → result.name.now ≡ nobody }
@@ -89,7 +89,7 @@ fn seated<'a>(player: PlayerAddress<'a>, role: usize, place: usize) -> PlayerAdd
     }
 }
 
-/// The plan of the match in which the checked player has this role, in a game with this many roles.
+/// The plan of the match in which the player is checked in this role, in a game with this many roles.
 fn match_plan<'a>(
     alloc: Global,
     plan: &CheckPlan<'a>,
@@ -112,7 +112,8 @@ fn match_plan<'a>(
     })
 }
 
-/// The turn of the next exchange, and the turns of the exchanges after it. Only an exchange that asks for a move has a turn.
+/// The turn of the next exchange, and the turns of the later exchanges. Only an exchange that asks for a move has a
+/// turn.
 fn next_turn(is_play: bool, turns: &[RoleTurn]) -> (Option<&RoleTurn>, &[RoleTurn])
     ensures turn { option_copied result.0 ≡ next_turn is_play turns.now }
     ensures later { result.1.now ≡ later_turns is_play turns.now }
@@ -123,8 +124,8 @@ fn next_turn(is_play: bool, turns: &[RoleTurn]) -> (Option<&RoleTurn>, &[RoleTur
     }
 }
 
-/// Appends a row for each exchange to the table. The turns are those of the exchanges that ask for a move, in order. Returns the
-/// number of bad answers.
+/// Appends a row to the table for each exchange. The turns belong to the exchanges that ask for a move, in order.
+/// Returns the number of bad answers.
 fn push_rows<'a>(
     alloc: Global,
     table: &mut Vec<u8>,
@@ -157,7 +158,8 @@ fn push_rows<'a>(
     Ok(bad)
 }
 
-/// Plays the match in which the checked player has this role, and appends its rows to the table. Returns the number of bad answers.
+/// Plays the match in which the player is checked in this role, and appends its rows to the table. Returns the number
+/// of bad answers.
 fn check_role<H, S>(
     alloc: Global,
     watching: &CheckReach<'_, H, S>,

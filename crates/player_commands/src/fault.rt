@@ -15,8 +15,8 @@ pub enum CommandFault {
     BadId,
     /// A player cannot be reached, or its answer cannot be read.
     NoAnswer,
-    /// The referee lacked this resource, so it did not send a message, or sent it too late, or lost the answer. The player did
-    /// nothing wrong.
+    /// The referee lacked this resource, so it did not send a message, sent it too late, or lost the answer. The player
+    /// did nothing wrong.
     NotSent(Shortage),
     /// The output cannot be written.
     WriteFault,
@@ -40,7 +40,7 @@ impl From<WriteFault> for CommandFault {
     }
 }
 
-/// The error of a command if a message to a player fails.
+/// The error of a command whose message to a player failed.
 pub fn contact_fault(fault: ContactFault) -> CommandFault
     ensures { result ≡ contact_fault fault }
 {

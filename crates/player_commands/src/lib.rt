@@ -1,6 +1,7 @@
-//! The commands that contact single players. `info` asks whether a player is available. `abort` sends ABORT for a match whose referee has
-//! stopped. `check` plays a match for each role of a game, in which the player has this role, and writes a table of the messages, the answers
-//! and their verdicts; the other roles answer nothing, so the referee plays their first legal moves. They work over any streams and any network.
+//! The commands that contact single players, over any streams and any network. `info` asks whether a player is
+//! available. `abort` sends ABORT for a match whose referee has stopped. `check` plays a match for each role of a game,
+//! with the checked player in this role, and writes a table of the messages, the answers and their verdicts. The other
+//! roles answer nothing, so the referee plays their first legal moves.
 //!
 //! Free functions take the allocator first, after a handle for threads, waiting or the network.
 #![tactic(auto)]

@@ -23,7 +23,7 @@ use whole_streams::write_all;
 /// The time that a player has for an answer, in seconds.
 const SECONDS: u32 = 10;
 
-/// Sends a message to a player and returns its answer. If there is none, reports why.
+/// Sends a message to a player and returns its answer. If there is no answer, reports why.
 fn answer_to<N: Resolves + Clock, E: Write>(
     rt: &N,
     alloc: Global,
@@ -53,7 +53,7 @@ fn info_word(info: Info) -> &'static str
     }
 }
 
-/// A JSON object with the name of a player and this verdict, as a line.
+/// The line with a JSON object that has the name of a player and this verdict.
 fn verdict_line(alloc: Global, name: &str, verdict: &str) -> Result<String, AllocError>
     ensures { IfOk result (λ line. string_bytes line ≡ verdict_line name.now verdict.now) }
 {
@@ -86,7 +86,7 @@ fn shortage_word(shortage: Shortage) -> &'static str
     }
 }
 
-/// The JSON object for a player that gave no answer, or to which nothing was sent.
+/// The line with the JSON object for a player that gave no answer, or to which nothing was sent.
 fn unanswered_line(alloc: Global, name: &str, fault: CommandFault) -> Result<String, AllocError>
     ensures { IfOk result (λ line. string_bytes line ≡ unanswered_line name.now fault) }
 {
@@ -121,7 +121,7 @@ fn write_unanswered<W: Write>(
     }
 }
 
-/// Asks a player whether it is available, and prints its answer. With JSON, also prints that there is no answer.
+/// Asks a player whether it is available, and prints its answer. As JSON, this also prints that there is no answer.
 pub fn info<N: Resolves + Clock, W: Write, E: Write + Drop>(
     rt: &N,
     alloc: Global,
@@ -164,7 +164,7 @@ fn abort_message(alloc: Global, id: &str) -> Result<Text, AllocError>
     message(alloc, &brief, 0, &Owed::Abort)
 }
 
-/// The output for a player after ABORT.
+/// The output for a player that got ABORT.
 fn abort_line(
     alloc: Global,
     is_json: bool,
@@ -212,8 +212,8 @@ fn write_abort<W: Write>(
     Ok(write_all(writer, line.as_bytes())?)
 }
 
-/// Sends ABORT to the players of a match, one after another, and prints for each whether it answered. If the referee
-/// lacks a resource for a player, this prints that only as JSON, and continues with the next player.
+/// Sends ABORT to the players of a match, one after another, and prints for each player whether it answered. If the
+/// referee lacks a resource for a player, prints this only as JSON, and continues with the next player.
 pub fn abort<N: Resolves + Clock, W: Write, E: Write + Drop>(
     rt: &N,
     alloc: Global,

@@ -42,8 +42,8 @@ fn push_legal<G: Game>(game: &G, moves: &[G::Move], words: &mut String) -> Resul
     Ok(())
 }
 
-/// If the role's answer in a recorded turn was not a legal move, appends an explanation: the roles for which the answer
-/// was legal, whether it was legal for this role one turn earlier, and the legal moves. Otherwise appends nothing.
+/// If the role's answer in a recorded turn was not a legal move, appends an explanation: for which roles the answer was
+/// legal, whether it was legal for this role one turn earlier, and the legal moves. Otherwise appends nothing.
 pub fn push_illegal_words<G: Game>(
     alloc: Global,
     game: &G,

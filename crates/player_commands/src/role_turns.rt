@@ -15,9 +15,9 @@ use std::alloc::{AllocError, Global};
 pub struct RoleTurn {
     /// The text of the role's recorded move.
     pub played: Text,
-    /// The error that is recorded with the move. It is empty if the role's answer was the move.
+    /// The error that is recorded with the move. It is empty if the move is the role's answer.
     pub error: Text,
-    /// The explanation if the answer was not a legal move; otherwise empty.
+    /// Why the answer was not a legal move. It is empty if the answer was legal.
     pub words: String,
 }
 
@@ -57,7 +57,7 @@ impl<H, S> MatchReader for CheckReach<'_, H, S> {
 
     ghost is_told = { λ w held told. AreTurnsOf (loaded_game (tables_of held.game)) held.value.turns w.role told.items };
 
-    /// The turns of the watched player's role. The error is `NotEnded` if the game has no such role.
+    /// Reads the turns of the watched player's role. The error is `NotEnded` if the game has no such role.
     fn read<'g>(
         &self,
         alloc: Global,

@@ -37,7 +37,7 @@ pub enum Verdict {
 impl Verdict {
     ghost use Rattle.player_commands.specs.Verdicts.{is_good};
 
-    /// Whether the verdict is taken, legal or dropped. Any other answer is bad.
+    /// Whether the verdict is taken, legal or dropped. An answer with any other verdict is bad.
     pub fn is_good(self) -> bool
         ensures { result ≡ is_good self }
     {
@@ -90,8 +90,8 @@ pub fn row_verdict(exchange: &Exchange, turn: Option<&RoleTurn>) -> Verdict
     verdict_of(exchange.is_play, exchange.brought, error)
 }
 
-/// What is wrong with an exchange that has this turn and verdict: its fault, or why the answer is not a move or not a legal
-/// one.
+/// What is wrong with an exchange that has this turn and this verdict: its error, or why the answer is not a move or
+/// not a legal move.
 pub fn fault_words(
     alloc: Global,
     exchange: &Exchange,

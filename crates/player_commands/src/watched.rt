@@ -1,4 +1,4 @@
-//! A watched player, and the players that answer nothing.
+//! The watched player, and the players that answer nothing.
 ghost use Rattle.std.specs.Prelude.{◌≡◌, ◌==◌, ◌↔◌, ◌⊎◌, ◌++◌, ◌∷◌, ◌+◌, ◌-◌, ◌^◌, ◌/◌, [], IfOk, IfSome, IsFalse, IsTrue, min, OnErr, is_some, option_and_then, string_bytes};
 ghost use Rattle.std.specs.Duration.{as_nanos};
 ghost use mathlib.Core.List.{IsPrefix};
@@ -25,9 +25,9 @@ use std::time::{Clock, Duration, Instant};
 #[derive(Clone, Copy)]
 pub enum AnswerKind {
     Text,
-    /// No answer in time.
+    /// No answer came in time.
     Silence,
-    /// An answer that cannot be read, or no connection.
+    /// The answer cannot be read, or there is no connection.
     Break,
 }
 
@@ -59,7 +59,7 @@ pub struct Exchanges {
 }
 
 impl Exchanges {
-    /// No exchanges yet.
+    /// An empty list of exchanges.
     pub fn new(alloc: Global) -> Exchanges {
         Exchanges {
             items: Vec::new(alloc),
@@ -103,7 +103,7 @@ fn brought_of(answer: &Answer) -> (AnswerKind, &[u8])
     }
 }
 
-/// Why this text is not one expression, or `None` if it is.
+/// Why this text is not one expression, or `None` if it is one.
 fn unread_fault(alloc: Global, text: &[u8]) -> Result<Option<KifFault>, AllocError> {
     if text.len() > MAX_ANSWER {
         return Ok(Some(KifFault::TooLong));
@@ -201,7 +201,7 @@ impl<H, S: ReportsShortages> ReportsShortages for CheckReach<'_, H, S> {
 }
 
 impl<H: Clock + Wait, P: Explains> CheckedPlayer<'_, H, P> {
-    /// Notes that a message begins. Returns the time now, if the clock can be read.
+    /// Records that a message begins. Returns the current time, if the clock can be read.
     fn begin(&mut self) -> Option<Instant>
         ensures begun { self.new.pace ≡ record self.old.pace { messages = min (2 ^ 64 - 1) (self.old.pace.messages + 1) } }
         ensures watched { self.new.watched ≡ self.old.watched }
@@ -210,8 +210,8 @@ impl<H: Clock + Wait, P: Explains> CheckedPlayer<'_, H, P> {
         Instant::now(self.rt).ok()
     }
 
-    /// Notes that a message that began at the time `began` has ended. If the player is watched and there is an answer,
-    /// stores the exchange. There is no answer if memory ran out.
+    /// Records that the message that began at the time `began` has ended. `answer` is `None` if memory ran out. Stores
+    /// the exchange if the player is watched and there is an answer.
     fn end(&mut self, message: &SharedText<'_>, answer: Option<&Answer>, began: Option<Instant>)
         ensures rest { as_nanos self.new.pace.rest ≡ 100_000_000 }
         ensures ended { IsFalse self.new.pace.has_rested }
