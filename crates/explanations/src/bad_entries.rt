@@ -10,7 +10,7 @@ fn fault_of(entry: &[u8], fault: LineFault) -> BadLine {
     BadLine::of(entry, call, fault)
 }
 
-/// Where an entry's text differs from the correct one, and whether the difference is in its reply.
+/// Where an entry differs from the correct text, and whether the difference is in the reply.
 fn difference(entry: &[u8], right: &[u8]) -> BadLine {
     let mut tabs: usize = 0;
     let mut at = 0;
@@ -44,8 +44,8 @@ fn line_at(text: &[u8], number: u64) -> &[u8] {
     line
 }
 
-/// Appends to `out` what is wrong with the first wrong line of a call log. Line numbers count from 1 and include the `before` lines of
-/// earlier call logs.
+/// Appends to `out` what is wrong with the first wrong line of a call log. Line numbers count from 1 and include the
+/// `before` lines of earlier call logs.
 pub fn push_bad_entry(
     account: &[u8],
     before: u64,

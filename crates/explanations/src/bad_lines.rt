@@ -17,7 +17,8 @@ static FORMS: [&str; 7] = [
 /// The explanation of a line of a call log that has too few fields.
 pub const FEWER_FIELDS: &str = "fewer fields than in LINE CALL REPLY, with a tab between each two";
 
-/// What is wrong with a line: the index of the byte, the explanation, and the correct form, which ends the explanation.
+/// What is wrong with a line: the index of the wrong byte, the explanation, and the correct form, with which the
+/// explanation ends.
 #[derive(Clone, Copy)]
 pub struct BadLine {
     pub at: usize,
@@ -34,7 +35,7 @@ impl BadLine {
         }
     }
 
-    /// What is wrong with a line, given the text of its call and its error.
+    /// What is wrong with a line, given the text and the error of its call.
     pub fn of(line: &[u8], call: &[u8], fault: LineFault) -> BadLine {
         let form = match fault.kind {
             FaultKind::FewerWords | FaultKind::MoreWords => form_of(call),
@@ -65,7 +66,7 @@ fn words_of(kind: FaultKind) -> &'static str {
     }
 }
 
-/// The form of the lines with the keyword of this call.
+/// The form of lines with the keyword of this call.
 fn form_of(call: &[u8]) -> &'static str {
     let (keyword, _) = first_piece(call, b' ');
     for form in &FORMS {
@@ -78,7 +79,8 @@ fn form_of(call: &[u8]) -> &'static str {
 
 const SHOWN: usize = 80;
 
-/// Appends to `out` the beginning of a line, with `?` for each invisible byte, two dots if more bytes follow, and a line feed.
+/// Appends to `out` the beginning of a line, with `?` for each byte that is not visible and two dots if more bytes
+/// follow, and a line feed.
 pub fn push_shown(out: &mut String, line: &[u8]) -> Result<(), AllocError> {
     for byte in line.iter().take(SHOWN) {
         let is_seen = byte.is_ascii_graphic() || *byte == b' ';

@@ -1,4 +1,5 @@
-//! Explains why a text does not describe a game: where its first error is, what is wrong, and the sentence there.
+//! Explains why a text does not describe a game: the position of its first error, what is wrong, and the sentence at
+//! this position.
 
 use crate::bad_lines::push_shown;
 use crate::places::Place;
@@ -9,7 +10,7 @@ use rule_sentences::LoadFault;
 use rule_sentences::sizes::MAX_MOVES;
 use std::alloc::{AllocError, Global};
 
-/// A text whose comments are replaced with spaces, and the offsets of its sentences.
+/// A text with spaces in place of its comments, and the offsets of its sentences.
 #[derive(Drop)]
 struct Sentences {
     text: Vec<u8>,
@@ -98,8 +99,8 @@ impl Sentences {
         self.text.get(start..end).unwrap_or(b"")
     }
 
-    /// The number of the sentence that causes this error. This is a binary search: if the first sentences have the error, adding more
-    /// sentences does not remove it.
+    /// The number of the sentence that causes this error. This is a binary search: if the first N sentences have the
+    /// error, it remains when further sentences are added.
     fn first_with(&self, alloc: Global, limits: Limits, fault: LoadFault) -> usize {
         let mut without: usize = 0;
         let mut with = self.starts.len();
@@ -206,7 +207,8 @@ fn push_kind(
     }
 }
 
-/// How to fix the error, as a line, if there is a hint. A text without lists may be the name of a file, unless it is empty.
+/// How to fix the error, as a line, if there is a hint. If a text has no lists, it may be the name of a file, unless it
+/// is empty.
 fn remedy(text: &[u8], fault: DescriptionFault) -> &'static str {
     match fault {
         DescriptionFault::Unfit(LoadFault::NoRole) if !text.is_empty() && !text.contains(&b'(') => {

@@ -7,7 +7,7 @@ use std::alloc::AllocError;
 const LINES: &str =
     "ggp_manager: the text has several lines: with --lines each line is checked as a record\n";
 
-/// Appends a hint to `out` if a text that is not a record has several lines.
+/// Appends a hint to `out` if a text that should be one record has several lines.
 pub fn push_several_lines(text: &[u8], out: &mut String) -> Result<(), AllocError> {
     match first_piece(text, b'\n') {
         (_, Some(more)) if !more.is_empty() => out.push_str(LINES),

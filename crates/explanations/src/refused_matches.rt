@@ -10,7 +10,7 @@ const BAD_ID: &str = "badid: an id has 1 to 64 letters, digits, -, _ and .";
 
 const BAD_CLOCK: &str = "badclock: a clock has 1 to 86400 seconds";
 
-/// What is wrong with the word at this index of a schedule's line, if it breaks a rule. The id has the index 0.
+/// Which rule the word at this index of a schedule's line breaks, if any. The id has the index 0.
 fn broken_rule(place: usize, word: &[u8]) -> Option<&'static str> {
     match place {
         0 if !is_name(word) => Some(BAD_ID),
@@ -61,8 +61,8 @@ pub fn push_refused_matches(schedule: &[u8], out: &mut String) -> Result<(), All
     Ok(())
 }
 
-/// Appends to `out` which rules a match with this id, these clocks and this many players breaks, in a game with `roles`
-/// roles.
+/// Appends to `out` which rules a match breaks that has this id, these clocks and this many players, in a game with
+/// `roles` roles.
 pub fn push_broken_rules(
     id: &str,
     clocks: [u32; 2],

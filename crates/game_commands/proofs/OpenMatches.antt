@@ -1,4 +1,4 @@
--- The matches of a desk that are not over, one after another.
+-- Counting the matches of a desk that are not over.
 use Rattle.std.proofs.Common.{◌≡◌, ℕ, ◌+◌, [], ◌∷◌, ◌++◌, take, Bool, true, not, cond, Option, Some, None, refl, sym, ap, ◌∙◌}
 use Rattle.std.specs.Prelude.{slice_get, option_map, option_and_then, unwrap_or, count_by}
 use Rattle.std.proofs.lemmas.List.{take_more}

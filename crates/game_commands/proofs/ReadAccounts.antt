@@ -45,7 +45,7 @@ with_lines_none done = filter-append (λ group. not (is_none group)) done ([] �
 
 -- ---- the text of a call log
 
--- reading the text of a line gives the line
+-- appending the text of a line to the text of a call log adds the line to the call log
 pub text_push : NextLineIsTaken → (text : List ℕ) (account : List (List ℕ)) (line : List ℕ) → HasNoLineFeed line → BeginsWithLines text account [] → BeginsWithLines (text ++ (line ++ 13 ∷ 10 ∷ [])) (account ++ line ∷ []) []
 text_push next_line text account line feedless begins =
     let whole = line ++ 13 ∷ [] in
@@ -108,7 +108,7 @@ one_more_is_some : (all : List (List (List ℕ))) (account : List (List ℕ)) �
 one_more_is_some [] account = refl
 one_more_is_some (first ∷ rest) account = refl
 
--- the same at the end of the input, where a call log without lines counts if it is the only one
+-- the same at the end of the input; there, a call log without lines counts if it is the only one
 pub replayed_last : {G S M : Type 0} (is_json : Bool) (rules : G → Rules S M) (games : List G) (done : List (List (List ℕ))) (text : List ℕ) (account : List (List ℕ)) (before : ℕ) (output end : List ℕ)
     → length text ≡ account_size account → before ≡ line_count done → AreReplayed is_json rules games (with_lines done) output → IsEnded is_json rules games (is_skipped text true before) account end
     → AreReplayed is_json rules games (at_least_one (with_lines (done ++ account ∷ []))) (output ++ end)
@@ -124,7 +124,7 @@ replayed_last is_json rules games done [] (line ∷ rest) before output end size
 replayed_last is_json rules games done (byte ∷ text) (line ∷ rest) before output end size count replayed ended =
     rw (with_lines_push done line rest, one_more_is_some (with_lines done) (line ∷ rest)) (replayed_push is_json rules games (with_lines done) (line ∷ rest) output end replayed (subst (λ b. IsEnded is_json rules games b (line ∷ rest) end) (some_text byte text true before) ended))
 
--- the output for a call log, and why it fails, are in the format that was asked for
+-- the output for a call log, and its error, have the format that was asked for
 pub ended_as : {G S M : Type 0} (is_json json : Bool) (rules : G → Rules S M) (games : List G) (skipped : Bool) (account : List (List ℕ)) (output : List ℕ)
     → json ≡ is_json → IsEnded json rules games skipped account output → IsEnded is_json rules games skipped account output
 ended_as is_json json rules games skipped account output form ended = subst (λ (b : Bool). IsEnded b rules games skipped account output) form ended
@@ -135,7 +135,7 @@ fails_as contents is_json json rules games before account writer writer' fault f
 
 -- ---- between two lines
 
--- What is known between two lines: the lines so far, the call logs that were replayed and their output, and the lines of the last log.
+-- What is known between two lines: the lines so far, the call logs that were replayed, their output, and the lines of the last call log.
 pub record Reads {G S M W : Type 0} (contents : W → Option (List ℕ)) (is_json : Bool) (rules : G → Rules S M) (games : List G) (given buffer : List ℕ) (part : OpenAccount) (place : ℕ) (writer writer' : Counting W) : Type 0 where
   pub seen : List (List ℕ)
   pub done : List (List (List ℕ))
@@ -294,7 +294,7 @@ module _ {G S M W : Type 0} (contents : W → Option (List ℕ)) (is_json : Bool
             few = omega (arith, length_push was.account line);
           }
 
-  -- the same if the input ends with a line feed
+  -- the same, if the input ends with a line feed
   pub no_line : LastAccount was.seen was.done part.text.items (length was.account + 1)
   no_line = record {
     account = was.account;

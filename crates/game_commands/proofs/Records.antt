@@ -24,7 +24,7 @@ records-next rules d k m at =
     ap (records rules d) (take_more d.matches k m (slice_get_within d.matches k m at) ∙ ap (λ x. take k d.matches ++ x ∷ []) (get_or_from_slice_get d.matches k m m at)) ∙ records-append rules d (take k d.matches) (m ∷ [])
     ∙ ap (λ z. records rules d (take k d.matches) ++ z) (append-nil (record_line rules d m))
 
--- the match at an index, as the desk's functions return it, adds its record
+-- the match at an index, as the desk's functions return it, adds its record to the output
 pub one_match : {G S M : Type 0} (rules : G → Rules S M) (d : ManagerValue G M) (k : ℕ) (g : G) (held : GameMatch G M)
     → option_and_then (game_of d) (slice_get d.matches k) ≡ Some g → option_and_then (game_match d) (slice_get d.matches k) ≡ Some held
     → records rules d (take (k + 1) d.matches) ≡ records rules d (take k d.matches) ++ (record_text (rules g) held.value ++ line_feed ∷ [])

@@ -1,4 +1,4 @@
--- The output of the check of records, and what its errors mean.
+-- The output of checking records, and the meaning of its errors.
 use Rattle.std.specs.Prelude.{◌≡◌, ℕ, ◌<◌, ◌≤◌, Bool, true, false, List, [], ◌++◌, length, take, ◌⊎◌, Option}
 use Rattle.std.specs.Io.KnownBytes.{Appends, IsAtEnd}
 use Rattle.std.specs.Str.Lines.{lines}
@@ -20,7 +20,7 @@ use Rattle.command_faults.specs.declared.fault.Fault.TheVariants.{ReadFault, Inp
 abbrev pub max_record : ℕ
 max_record = 16777216
 
--- the verdict is written: as JSON always, in plain text only if the record is lawful
+-- the verdict is written; in plain text, only if the record is lawful
 abbrev pub IsWritten : {S M : Type 0} → Bool → Rules S M → List ℕ → Verdict → Type 0
 IsWritten is_json g given Lawful = IsLawfulRecord g given
 IsWritten true g given (Unlawful fault) = (¬ IsLawfulRecord g given) × FailsFirst g given fault
@@ -36,13 +36,13 @@ IsNotWritten contents is_json verdict fault writer writer' = ((fault ≡ Memory)
     ⊎ ((fault ≡ WriteFault) × (writer'.faults ≡ one_more writer.faults) × ((taken : ℕ) × (taken ≤ length (verdict_line is_json verdict))
     × Appends (contents writer.stream) (contents writer'.stream) (take taken (verdict_line is_json verdict))))
 
--- The error says that a record is not lawful, after the verdict was written; or it says why the verdict could not be written.
+-- The error says that a record is not lawful, and the verdict was written before; or the error says why the verdict could not be written.
 abbrev pub TellsFault : {W : Type 0} → (W → Option (List ℕ)) → Bool → VerifyFault → Fault → Counting W → Counting W → Type 0
 TellsFault contents is_json fault told writer writer' = ((told ≡ NotLawful fault) × TellsUnlawful contents is_json fault writer writer')
     ⊎ ((is_json ≡ true) × IsNotWritten contents true (Unlawful fault) told writer writer')
 
--- What an error says about the bytes that were read, the reader before and after, and the writer. Nothing is written but a verdict, or
--- a prefix of it if the write fails. A record is checked after all of it was read.
+-- What an error says about the bytes that were read, the reader before and after, and the writer. Nothing is written except a verdict, or,
+-- if the write fails, a prefix of the verdict. A record is checked only after all of it was read.
 abbrev pub CheckFails : {S M R W : Type 0} → (R → Option (List ℕ)) → (W → Option (List ℕ)) → Bool → Rules S M → Fault → List ℕ → Counting R → Counting R → Counting W → Counting W → Type 0
 CheckFails remaining contents is_json g ReadFault given reader reader' writer writer' = (length given ≤ max_record) × StopsReading (length given) reader reader' × (writer' ≡ writer)
 CheckFails remaining contents is_json g InputTooLong given reader reader' writer writer' = (max_record < length given) × (reader'.faults ≡ reader.faults) × (writer' ≡ writer)
@@ -72,12 +72,12 @@ TellsPart contents is_json g verdicts line writer writer' = (writer'.faults ≡ 
     × ((verdict : Verdict) × (taken : ℕ) × IsVerdict g line verdict × (taken ≤ length (verdict_line is_json verdict))
     × Appends (contents writer.stream) (contents writer'.stream) (verdict_lines is_json verdicts ++ take taken (verdict_line is_json verdict)))
 
--- what an error means when the verdict on this line is written
+-- the meaning of an error that occurs while the verdict on this line is written
 abbrev pub LineFails : {S M W : Type 0} → (W → Option (List ℕ)) → Bool → Rules S M → Fault → List ℕ → Counting W → Counting W → Type 0
 LineFails contents is_json g fault line writer writer' = ((fault ≡ Memory) × (writer' ≡ writer)) ⊎ ((fault ≡ WriteFault) × TellsPart contents is_json g [] line writer writer')
 
--- What an error says about the streams before and after. The first lines have these verdicts, and these bytes are left. Reading stops
--- at a line that is too long, and after 2^64 - 1 lines.
+-- What an error says about the streams before and after. The first lines got these verdicts, and these bytes are left. Reading stops at a
+-- line that is too long, or after 2^64 - 1 lines.
 abbrev pub CheckStops : {S M R W : Type 0} → (R → Option (List ℕ)) → (W → Option (List ℕ)) → Bool → Rules S M → Fault → List Verdict → List ℕ → Counting R → Counting R → Counting W → Counting W → Type 0
 CheckStops remaining contents is_json g ReadFault verdicts left reader reader' writer writer' =
     HasOpenLine left (λ count. (count ≤ max_line) × StopsReading count reader reader') × TellsVerdicts contents is_json verdicts writer writer'

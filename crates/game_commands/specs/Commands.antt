@@ -1,4 +1,4 @@
--- A command for one game: its output for an input, and what its errors mean.
+-- A command for one game: its output for an input, and the meaning of its errors.
 use Rattle.std.specs.Prelude.{◌≡◌, ◌≢◌, ℕ, ◌≤◌, Bool, true, false, List, [], ◌∷◌, length, MatchOption, Option, ◌⊎◌}
 use Rattle.std.specs.Io.KnownBytes.{Consumes}
 use Rattle.std.specs.Str.Lines.{lines}
@@ -38,7 +38,8 @@ use Rattle.game_commands.specs.Checks.{CheckFails, CheckStops}
 
 -- ---- the output of a command
 
--- The output for an input, and the number of errors in the input: the bad lines of a script, or the lines that are not lawful records.
+-- The output for an input, and how many lines of the input have errors: the bad lines of a script, or the lines that are not lawful
+-- records.
 abbrev pub IsOutput : {G S M : Type 0} → Bool → (G → Rules S M) → G → GameCommand → List ℕ → List ℕ → ℕ → Type 0
 IsOutput is_json rules game Desk input output wrong = (output ≡ script_output rules (game ∷ []) input) × (wrong ≡ bad_lines (lines input))
 IsOutput is_json rules game Verify input output wrong = IsLawfulRecord (rules game) input × (output ≡ verdict_line is_json Lawful) × (wrong ≡ 0)
@@ -46,20 +47,20 @@ IsOutput is_json rules game VerifyLines input output wrong =
     (verdicts : List Verdict) × AreVerdicts (rules game) (lines input) verdicts × (output ≡ verdict_lines is_json verdicts) × (wrong ≡ count_unlawful verdicts)
 IsOutput is_json rules game Replay input output wrong = (wrong ≡ 0) × AreReplayed is_json rules (game ∷ []) (accounts input) output
 
--- the whole input was read, and the output for it was written; the input has this many errors
+-- the whole input was read, and the output for it was written; this many lines of the input have errors
 abbrev pub Answers : {G S M R W : Type 0} → (R → Option (List ℕ)) → (W → Option (List ℕ)) → Bool → (G → Rules S M) → G → GameCommand → ℕ → Counting R → Counting R → Counting W → Counting W → Type 0
 Answers remaining contents is_json rules game command wrong reader reader' writer writer' =
     (input output : List ℕ) × ReadsAndWrites remaining contents input output reader reader' writer writer' × IsOutput is_json rules game command input output wrong
 
 -- ---- the errors of a command
 
--- the error that gives the number of errors in the input
+-- the error that reports how many lines of the input have errors
 abbrev pub TellsNumber : GameCommand → ℕ → Fault → Type 0
 TellsNumber Desk wrong fault = fault ≡ BadLines wrong
 TellsNumber VerifyLines wrong fault = fault ≡ UnlawfulRecords wrong
 TellsNumber _ wrong fault = ⊥
 
--- what an error of a desk means, after these bytes were read
+-- the meaning of an error of a desk, after these bytes were read
 abbrev pub DeskFails : {G S M R W : Type 0} → (R → Option (List ℕ)) → (W → Option (List ℕ)) → Bool → (G → Rules S M) → List G → Fault → List ℕ → Counting R → Counting R → Counting W → Counting W → Type 0
 DeskFails remaining contents true rules games fault given reader reader' writer writer' = InteractiveFails remaining contents rules games fault given reader reader' writer writer'
 DeskFails remaining contents false rules games fault given reader reader' writer writer' =
@@ -74,7 +75,7 @@ Stops remaining contents is_interactive is_json rules game VerifyLines given fau
     × CheckStops remaining contents is_json (rules game) fault verdicts left reader reader' writer writer'
 Stops remaining contents is_interactive is_json rules game Replay given fault reader reader' writer writer' = ReplayFails contents is_json rules (game ∷ []) given fault reader reader' writer writer'
 
--- The error gives the number of errors in the input, after the whole output was written, or it stopped the command.
+-- The error reports how many lines of the input have errors, after the whole output was written; or it stopped the command.
 abbrev pub Fails : {G S M R W : Type 0} → (R → Option (List ℕ)) → (W → Option (List ℕ)) → GameRequest → (G → Rules S M) → G → Fault → Counting R → Counting R → Counting W → Counting W → Type 0
 Fails remaining contents request rules game fault reader reader' writer writer' =
     ((wrong : ℕ) × (wrong ≢ 0) × TellsNumber request.task.command wrong fault × Answers remaining contents request.is_json rules game request.task.command wrong reader reader' writer writer')
@@ -83,15 +84,15 @@ Fails remaining contents request rules game fault reader reader' writer writer' 
 
 -- ---- the input of a command
 
--- The whole input was read, and the output for it was written. If a file is named, the input is the content of the file, which may be
--- any bytes, and the reader does not change.
+-- The whole input was read, and the output for it was written. If a file is named, the input is the content of the file, which may be any
+-- bytes, and the reader stays unchanged.
 abbrev pub AnswersInput : {G S M R F W : Type 0} → (R → Option (List ℕ)) → (F → Option (List ℕ)) → (W → Option (List ℕ)) → (G → Rules S M) → G → GameRequest → Counting R → Counting R → Counting W → Counting W → Type 0
 AnswersInput remaining file_remaining contents rules game request reader reader' writer writer' =
     MatchOption request.task.file (Answers remaining contents request.is_json rules game request.task.command 0 reader reader' writer writer')
     (λ path. (reader' ≡ reader) × ((opened : Counting _) × (read : Counting _) × Answers file_remaining contents request.is_json rules game request.task.command 0 opened read writer writer'))
 
--- What an error says about the input. If a file is named, either it cannot be opened and nothing was written, or the error is that of
--- the command on the bytes of the file, turned into an error of the file.
+-- What an error says about the input. If a file is named, there are two cases: the file cannot be opened, and nothing was written; or the
+-- error is the error of the command on the bytes of the file, turned into an error of the file.
 abbrev pub FailsInput : {G S M R F W : Type 0} → (R → Option (List ℕ)) → (F → Option (List ℕ)) → (W → Option (List ℕ)) → (G → Rules S M) → G → GameRequest → Fault → Counting R → Counting R → Counting W → Counting W → Type 0
 FailsInput remaining file_remaining contents rules game request fault reader reader' writer writer' =
     MatchOption request.task.file (Fails remaining contents request rules game fault reader reader' writer writer')
@@ -101,17 +102,17 @@ FailsInput remaining file_remaining contents rules game request fault reader rea
 
 -- ---- the game of a source
 
--- the text is that of the source; if the source is a file, it may be any text
+-- this is the text of the source; the text of a file may be any text
 abbrev pub IsTextOf : RulesSource → List ℕ → Type 0
 IsTextOf (Text rules) text = text ≡ rules.now
 IsTextOf (File path) text = Unit {0}
 
--- the error for a text that cannot be read; this is always the text of a file
+-- the error if the text of a source cannot be read; this can only be the text of a file
 abbrev pub HasNoText : RulesSource → Fault → Type 0
 HasNoText (Text rules) fault = ⊥
 HasNoText (File path) fault = IsFileFault RulesFile fault
 
--- the limits for the description of a source; Countdown has the usual limits
+-- the limits for the description of a source; the usual limits for Countdown
 abbrev pub limits_of : GameSource → Limits
 limits_of (OfCountdown size) = Usual
 limits_of (Described source limits) = limits
@@ -120,11 +121,11 @@ abbrev pub HoldsOfGame : GameSource → ((G S M : Type 0) → (G → Rules S M) 
 HoldsOfGame (OfCountdown size) Holds = (game : Countdown) × (game.size ≡ size) × Holds _ _ _ (λ g. countdown g.size) game
 HoldsOfGame (Described source limits) Holds = (text : List ℕ) × (game : PackedGame) × IsTextOf source text × IsDescribed limits text game × Holds _ _ _ (λ g. loaded_game (tables_of g)) game
 
--- the error for a text that does not describe a game within these limits, unless memory runs out
+-- unless memory runs out, the error for a text that does not describe a game within these limits
 abbrev pub IsRefused : Limits → List ℕ → Fault → Type 0
 IsRefused limits text fault = (fault ≡ Memory) ⊎ ((fault ≡ BadDescription) × DescribesNone limits text)
 
--- the error for a source without a game, unless memory runs out
+-- unless memory runs out, the error for a source without a game
 abbrev pub HasNoGame : GameSource → Fault → Type 0
 HasNoGame (OfCountdown size) fault = (fault ≡ WrongUse) × ¬ ((1 ≤ size) × (size ≤ max_heap))
 HasNoGame (Described source limits) fault = HasNoText source fault ⊎ ((text : List ℕ) × IsTextOf source text × IsRefused limits text fault)
@@ -134,7 +135,7 @@ abbrev pub HasNoSourceText : GameSource → Fault → Type 0
 HasNoSourceText (OfCountdown size) fault = (fault ≡ Memory) ⊎ HasNoGame (OfCountdown size) fault
 HasNoSourceText (Described source limits) fault = HasNoText source fault
 
--- the text of a game's rules for players: that of the source, or Countdown's rules
+-- the text of a game's rules for players: the text of the source, or Countdown's rules
 abbrev pub IsSourceText : GameSource → List ℕ → Type 0
 IsSourceText (OfCountdown size) text = text ≡ countdown_text size
 IsSourceText (Described source limits) text = IsTextOf source text

@@ -1,4 +1,4 @@
--- What an error of an interactive desk says about its streams. The answer to each line is written before the next line is read.
+-- What an error of an interactive desk says about its streams. The desk writes the answer to each line before it reads the next line.
 use Rattle.std.specs.Prelude.{◌≡◌, ◌⊎◌, ℕ, ◌<◌, ◌≤◌, List, [], ◌∷◌, ◌++◌, length, take, Option}
 use Rattle.std.specs.Io.KnownBytes.{Appends, IsAtEnd}
 use Rattle.std.specs.Str.Lines.{lines}
@@ -22,12 +22,12 @@ abbrev pub WritesPart : {W : Type 0} → (W → Option (List ℕ)) → List ℕ 
 WritesPart contents done text writer writer' = (writer'.faults ≡ one_more writer.faults)
     × ((rest : List ℕ) × (text ≡ done ++ rest) × ((taken : ℕ) × (taken ≤ length rest) × Appends (contents writer.stream) (contents writer'.stream) (done ++ take taken rest)))
 
--- why only `done`, or only a prefix of `text`, was written; `text` begins with `done`
+-- why only `done`, or only a prefix of `text`, was written; `done` is a prefix of `text`
 abbrev pub StopsWriting : {W : Type 0} → (W → Option (List ℕ)) → List ℕ → List ℕ → Fault → Counting W → Counting W → Type 0
 StopsWriting contents done text fault writer writer' = ((fault ≡ Memory) × Writes contents done writer writer') ⊎ ((fault ≡ WriteFault) × WritesPart contents done text writer writer')
 
 -- What an error says about the streams before and after. The first lines were answered, and these bytes are left. `answers` computes the
--- answers to some lines.
+-- answers to lines.
 abbrev pub StopsAnswering : {R W : Type 0} → (R → Option (List ℕ)) → (W → Option (List ℕ)) → (List (List ℕ) → List ℕ) → Fault → List (List ℕ) → List ℕ → Counting R → Counting R → Counting W → Counting W → Type 0
 StopsAnswering remaining contents answers ReadFault first left reader reader' writer writer' =
     HasOpenLine left (λ count. (count ≤ max_script) × StopsReading count reader reader') × Writes contents (answers first) writer writer'
@@ -38,7 +38,7 @@ StopsAnswering remaining contents answers WriteFault first left reader reader' w
     (reader'.faults ≡ reader.faults) × ((line : List ℕ) × HasFirstLine (remaining reader'.stream) left line × WritesPart contents (answers first) (answers (first ++ line ∷ [])) writer writer')
 StopsAnswering remaining contents answers fault first left reader reader' writer writer' = ⊥
 
--- What an error of an interactive desk means, after these bytes were read: it stopped the answers, or the records that follow them.
+-- The meaning of an error of an interactive desk, after these bytes were read: it stopped the answers, or the records that follow them.
 abbrev pub InteractiveFails : {G S M R W : Type 0} → (R → Option (List ℕ)) → (W → Option (List ℕ)) → (G → Rules S M) → List G → Fault → List ℕ → Counting R → Counting R → Counting W → Counting W → Type 0
 InteractiveFails remaining contents rules games fault given reader reader' writer writer' =
     ((first : List (List ℕ)) × (left : List ℕ) × BeginsWithLines given first left

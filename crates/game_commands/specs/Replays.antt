@@ -1,4 +1,4 @@
--- The output for call logs that were replayed, and why a call log is refused.
+-- The output for replayed call logs, and why a call log is refused.
 use Rattle.std.specs.Prelude.{◌≡◌, ◌≢◌, ◌==◌, ◌⊎◌, ◌≤◌, ◌<◌, ◌+◌, ℕ, zero, suc, Bool, true, false, not, ◌&&◌, if◌then◌else◌, List, [], ◌∷◌, ◌++◌, codes, count_by, filter, length, sum_by, take, Option, option_map, unwrap_or}
 use Rattle.std.specs.Fmt.{decimal}
 use Rattle.std.specs.Io.KnownBytes.{Appends}
@@ -33,13 +33,13 @@ open_words zero = []
 open_words (suc zero) = codes ", match not ended"
 open_words (suc (suc more)) = codes ", " ++ (decimal (suc (suc more)) ++ codes " matches not ended")
 
--- the line, as JSON or as plain text, for these numbers of calls, of matches that are not over, and of all matches
+-- the line for these numbers: of calls, of matches that are not over, and of all matches; as JSON or in plain text
 abbrev pub replayed_line : Bool → ℕ → ℕ → ℕ → List ℕ
 replayed_line false calls count matches = codes "replayed " ++ (decimal calls ++ (codes " calls" ++ (open_words count ++ line_feed ∷ [])))
 replayed_line true calls count matches =
     codes "{\"verdict\":\"replayed\",\"calls\":" ++ (decimal calls ++ (codes ",\"not_ended\":" ++ (decimal count ++ (codes ",\"records\":" ++ (decimal matches ++ codes "}\n")))))
 
--- the output for a call log of this many calls that leads to this desk: one line about them, and the records of the matches
+-- the output for a call log of this many calls that leads to this desk: one line with the numbers, and then the records of the matches
 abbrev pub replayed_text : {G S M : Type 0} → Bool → (G → Rules S M) → ManagerValue G M → ℕ → List ℕ
 replayed_text is_json rules desk calls = replayed_line is_json calls (open_matches rules desk) (length desk.matches) ++ records rules desk desk.matches
 
@@ -53,7 +53,7 @@ abbrev pub begins_as_record : List ℕ → Bool
 begins_as_record [] = false
 begins_as_record (byte ∷ line) = byte == 123
 
--- the text that is stored for a line: none for a record
+-- the text that is stored for a line; empty if the line begins as a record does
 abbrev pub line_text : List ℕ → List ℕ
 line_text line = if begins_as_record line then [] else line ++ 13 ∷ 10 ∷ []
 
@@ -62,7 +62,7 @@ abbrev pub into_first : List ℕ → List (List (List ℕ)) → List (List (List
 into_first line [] = (line ∷ []) ∷ []
 into_first line (group ∷ more) = (line ∷ group) ∷ more
 
--- the groups of lines between lines that begin as records do
+-- the groups of lines that are separated by lines that begin as records do
 abbrev pub groups : List (List ℕ) → List (List (List ℕ))
 groups [] = [] ∷ []
 groups (line ∷ more) = if begins_as_record line then [] ∷ groups more else into_first line (groups more)
@@ -74,7 +74,7 @@ is_none (x ∷ more) = false
 abbrev pub with_lines : List (List (List ℕ)) → List (List (List ℕ))
 with_lines all = filter (λ group. not (is_none group)) all
 
--- these call logs, or one without lines if there are none
+-- these call logs, or, if there are none, one call log without lines
 abbrev pub at_least_one : List (List (List ℕ)) → List (List (List ℕ))
 at_least_one [] = [] ∷ []
 at_least_one (account ∷ more) = account ∷ more
@@ -88,16 +88,16 @@ abbrev pub IsReplayed : {G S M : Type 0} → Bool → (G → Rules S M) → List
 IsReplayed {G} {S} {M} is_json rules games account output =
     (desk : ManagerValue G M) × (calls : ℕ) × IsAccount (reply rules) (after rules) (no_matches games) account desk calls × (output ≡ replayed_text is_json rules desk calls)
 
--- each of these is a call log that a new desk accepts, and this is the output for all
+-- each of these is a call log that a new desk accepts, and this is the output for all of them
 abbrev pub AreReplayed : {G S M : Type 0} → Bool → (G → Rules S M) → List G → List (List (List ℕ)) → List ℕ → Type 0
 AreReplayed is_json rules games [] output = output ≡ []
 AreReplayed is_json rules games (account ∷ more) output = (first rest : List ℕ) × (output ≡ first ++ rest) × IsReplayed is_json rules games account first × AreReplayed is_json rules games more rest
 
--- a group without lines is not a call log, unless it is the only one and the input ends there
+-- a group without lines is not a call log, unless it is the only group and the input ends there
 abbrev pub is_skipped : List ℕ → Bool → ℕ → Bool
 is_skipped text is_last before = length text == 0 && not (is_last && before == 0)
 
--- the output for the lines up to a record or to the end of the input
+-- the output for the lines up to a record, or to the end of the input
 abbrev pub IsEnded : {G S M : Type 0} → Bool → (G → Rules S M) → List G → Bool → List (List ℕ) → List ℕ → Type 0
 IsEnded is_json rules games true account output = output ≡ []
 IsEnded is_json rules games false account output = IsReplayed is_json rules games account output
@@ -107,11 +107,11 @@ IsEnded is_json rules games false account output = IsReplayed is_json rules game
 abbrev pub line_count : List (List (List ℕ)) → ℕ
 line_count all = sum_by length all
 
--- the size of a call log, with two bytes for the end of each line
+-- the size of a call log, with two bytes for each line end
 abbrev pub account_size : List (List ℕ) → ℕ
 account_size account = sum_by (λ line. length line + 2) account
 
--- the program's error for a refused call log after this many lines of other logs
+-- the program's error for a refused call log that follows this many lines of other call logs
 abbrev pub replay_fault : ℕ → ReplayFault → Fault
 replay_fault before ReplayMemory = Memory
 replay_fault before (ReplayNoEntry place why) = NoEntry (before + place)
@@ -126,8 +126,8 @@ IsNumbered before (ReplayDiffers place right) = before + place ≤ last_count
 abbrev pub refused_line : List ℕ → ℕ → List ℕ
 refused_line verdict line = codes "{\"verdict\":\"" ++ (verdict ++ (codes "\",\"line\":" ++ (decimal line ++ codes "}\n")))
 
--- The output for a refused call log after this many lines of other logs: the verdict as JSON; or, in plain text, the correct line, if
--- the first wrong line has a call.
+-- The output for a refused call log that follows this many lines of other call logs. As JSON, it is the verdict. In plain text, it is the
+-- correct line if the first wrong line has a call, and otherwise nothing.
 abbrev pub refused_output : Bool → ℕ → ReplayFault → List ℕ
 refused_output is_json before ReplayMemory = []
 refused_output true before (ReplayNoEntry place why) = refused_line (codes "no_entry") (before + place)
@@ -135,7 +135,7 @@ refused_output false before (ReplayNoEntry place why) = []
 refused_output true before (ReplayDiffers place right) = refused_line (codes "differs") (before + place)
 refused_output false before (ReplayDiffers place right) = right.items ++ line_feed ∷ []
 
--- the call log is refused at the first wrong line, unless memory runs out, and this is the output
+-- unless memory runs out, the call log is refused at the first wrong line, and this is the output
 abbrev pub IsRefusedAccount : {G S M : Type 0} → Bool → (G → Rules S M) → List G → ℕ → List (List ℕ) → Fault → List ℕ → Type 0
 IsRefusedAccount is_json rules games before account fault output =
     (why : ReplayFault) × (fault ≡ replay_fault before why) × (output ≡ refused_output is_json before why) × (why ≢ ReplayMemory → IsFirstFault (reply rules) (after rules) (no_matches games) account why)
@@ -144,19 +144,19 @@ IsRefusedAccount is_json rules games before account fault output =
 abbrev pub IsReplayOutput : {G S M : Type 0} → Bool → (G → Rules S M) → List G → ℕ → List (List ℕ) → List ℕ → Type 0
 IsReplayOutput is_json rules games before account output = IsReplayed is_json rules games account output ⊎ ((fault : Fault) × IsRefusedAccount is_json rules games before account fault output)
 
--- Why these lines are not accepted, and what was written: they are refused, and the output for that was written; or a write failed, and
--- a prefix of the output was written.
+-- Why these lines are not accepted, and what was written: the lines are refused, and the output for this was written; or a write failed,
+-- and a prefix of the output was written.
 abbrev pub AccountFails : {G S M W : Type 0} → (W → Option (List ℕ)) → Bool → (G → Rules S M) → List G → ℕ → List (List ℕ) → Counting W → Counting W → Fault → Type 0
 AccountFails contents is_json rules games before account writer writer' fault =
     ((output : List ℕ) × IsRefusedAccount is_json rules games before account fault output × Appends (contents writer.stream) (contents writer'.stream) output × (writer'.faults ≡ writer.faults))
     ⊎ ((fault ≡ WriteFault) × (writer'.faults ≡ one_more writer.faults)
     × ((output : List ℕ) × (taken : ℕ) × IsReplayOutput is_json rules games before account output × (taken ≤ length output) × Appends (contents writer.stream) (contents writer'.stream) (take taken output)))
 
--- why a call log of this size is not stored: memory ran out, or the log is too long
+-- why a call log of this size is not stored: memory ran out, or the call log is too long
 abbrev pub StopsLongAccount : Fault → ℕ → Type 0
 StopsLongAccount fault size = (fault ≡ Memory) ⊎ ((fault ≡ InputTooLong) × (max_account < size))
 
--- Why reading the input stops, given its lines so far, the lines of the last call log, and the bytes that are left.
+-- Why reading the input stops, given the lines so far, the lines of the last call log, and the bytes that are left.
 abbrev pub StopsInput : {R : Type 0} → Fault → List (List ℕ) → List (List ℕ) → List ℕ → Counting R → Counting R → Type 0
 StopsInput ReadFault seen account left reader reader' = HasOpenLine left (λ count. (count ≤ max_line) × StopsReading count reader reader')
 StopsInput InputTooLong seen account left reader reader' =
@@ -164,12 +164,12 @@ StopsInput InputTooLong seen account left reader reader' =
 StopsInput Memory seen account left reader reader' = reader'.faults ≡ reader.faults
 StopsInput fault seen account left reader reader' = ⊥
 
--- these are lines of the text, and these bytes are left; or they are all its lines
+-- these are lines of the text and these bytes are left, or these are all lines of the text
 abbrev pub HasLines : List ℕ → List (List ℕ) → List ℕ → Type 0
 HasLines text seen left = BeginsWithLines text seen left ⊎ ((lines text ≡ seen) × (left ≡ []))
 
--- Why not all call logs of an input were replayed, given the bytes that were read, and the streams before and after. The output for the
--- earlier logs was written. Then reading stopped, or the next log failed.
+-- Why not all call logs of an input were replayed, given the bytes that were read and the streams before and after. The output for the
+-- earlier call logs was written. Then reading stopped, or the next call log failed.
 abbrev pub ReplayFails : {G S M R W : Type 0} → (W → Option (List ℕ)) → Bool → (G → Rules S M) → List G → List ℕ → Fault → Counting R → Counting R → Counting W → Counting W → Type 0
 ReplayFails {W = W} contents is_json rules games given fault reader reader' writer writer' =
     (seen : List (List ℕ)) × (left : List ℕ) × (done : List (List (List ℕ))) × (account : List (List ℕ)) × (rest : List (List (List ℕ))) × (output : List ℕ) × (mid : Counting W)

@@ -1,5 +1,5 @@
--- The output of a script as a function of its input. The calls are made on an object, which is given by its reply to a call and its
--- value after a call.
+-- The output of a script as a function of its input. The calls are made on an object; two functions give the object's reply to a call and
+-- its value after the call.
 use Rattle.std.specs.Prelude.{ℕ, ◌+◌, List, [], ◌∷◌, ◌++◌, Option, Some, None, is_none, option_map, unwrap_or, codes, if◌then◌else◌}
 use Rattle.std.specs.Str.Lines.{lines}
 use Rattle.game_core.specs.Bytes.{line_feed}
@@ -12,7 +12,7 @@ use Rattle.desk_calls.specs.declared.call.Reply.{Reply}
 use Rattle.desk_text.specs.ScriptLines.{call_of, reply_text}
 use Rattle.desk_text.specs.Account.{no_matches}
 
--- the answer to a line; a bad line makes no call
+-- the answer to a line; no call is made for a bad line
 abbrev pub line_answer : {S : Type 0} → (S → Call → Reply) → S → Option Call → List ℕ
 line_answer reply s None = codes "badline"
 line_answer reply s (Some call) = reply_text (reply s call)

@@ -10,7 +10,7 @@ abbrev pub max_script : ℕ
 max_script = 1048576
 
 -- What an error says about the reader before and after, and about the writer. This many bytes of the script were read, and this is the
--- output for them. Only a failed write leaves something written: a prefix of the output.
+-- output for them. Only a failed write leaves something written, namely a prefix of the output.
 abbrev pub ScriptFails : {R W : Type 0} → (R → Option (List ℕ)) → (W → Option (List ℕ)) → List ℕ → Fault → ℕ → Counting R → Counting R → Counting W → Counting W → Type 0
 ScriptFails remaining contents output ReadFault given reader reader' writer writer' = (given ≤ max_script) × StopsReading given reader reader' × (writer' ≡ writer)
 ScriptFails remaining contents output InputTooLong given reader reader' writer writer' = (max_script < given) × (reader'.faults ≡ reader.faults) × (writer' ≡ writer)

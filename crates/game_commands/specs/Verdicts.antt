@@ -10,7 +10,7 @@ use Rattle.desk_text.specs.AccountLines.{is_account_line}
 use Rattle.game_commands.specs.declared.verdicts.Verdict.{Verdict}
 use Rattle.game_commands.specs.declared.verdicts.Verdict.TheVariants.{Lawful, Unlawful, Account}
 
--- The verdict on a line: the line has the form of a line of a call log, or is a lawful record, or fails this test first.
+-- The verdict on a line: the line has the form of a line of a call log, is a lawful record, or fails this check first.
 abbrev pub IsVerdict : {S M : Type 0} → Rules S M → List ℕ → Verdict → Type 0
 IsVerdict g text Account = is_account_line text ≡ true
 IsVerdict g text Lawful = (is_account_line text ≡ false) × IsLawfulRecord g text
@@ -22,7 +22,7 @@ AreVerdicts g [] (verdict ∷ verdicts) = ⊥
 AreVerdicts g (text ∷ texts) [] = ⊥
 AreVerdicts g (text ∷ texts) (verdict ∷ verdicts) = IsVerdict g text verdict × AreVerdicts g texts verdicts
 
--- The output for a verdict, as JSON or as plain text. As plain text it is empty for a line of a call log.
+-- The output for a verdict, as JSON or in plain text. In plain text, the output for a line of a call log is empty.
 abbrev pub verdict_line : Bool → Verdict → List ℕ
 verdict_line false Lawful = codes "lawful" ++ line_feed ∷ []
 verdict_line false (Unlawful fault) = codes "not lawful: " ++ fault_text fault ++ line_feed ∷ []

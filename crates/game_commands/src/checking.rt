@@ -36,7 +36,7 @@ fn write_verdict<W: Write>(
     Ok(write_all(writer, line.as_bytes())?)
 }
 
-/// Returns the error for a record that is not lawful. With JSON it first writes the verdict.
+/// The error for a record that is not lawful. As JSON, this first writes the verdict.
 fn write_unlawful<W: Write>(
     alloc: Global,
     is_json: bool,
@@ -54,8 +54,9 @@ fn write_unlawful<W: Write>(
     }
 }
 
-/// Reads a record, checks it against the game, and writes that it is lawful. If it is not, the error names the first test that failed, and
-/// the verdict is written only as JSON. A text that is not JSON is stored as evidence.
+/// Reads a record, checks it against the game, and writes that it is lawful. If the record is not lawful, the error
+/// names the first check that failed, and the verdict is written only as JSON. A text that is not JSON is stored as
+/// evidence.
 pub fn check_record<G: Game, R: Read, W: Write>(
     alloc: Global,
     is_json: bool,
@@ -88,7 +89,7 @@ pub fn check_record<G: Game, R: Read, W: Write>(
     }
 }
 
-/// Writes the verdict on a line, and returns it. In plain text, nothing is written for a line of a call log.
+/// Writes the verdict on a line, and returns the verdict. In plain text, writes nothing for a line of a call log.
 fn check_line<G: Game, W: Write>(
     alloc: Global,
     is_json: bool,
@@ -106,7 +107,7 @@ fn check_line<G: Game, W: Write>(
     Ok(verdict)
 }
 
-/// The numbers of lines that were not lawful and of lines that were skipped.
+/// How many lines were not lawful, and how many were skipped.
 #[derive(Clone, Copy)]
 pub struct LineCounts {
     /// The number of lines that are neither lawful records nor lines of call logs.
@@ -115,8 +116,8 @@ pub struct LineCounts {
     pub skipped: u64,
 }
 
-/// Checks each line of the input as a record of the game, and writes the verdict on it before it reads the next line.
-/// Skips the lines of call logs. Only one line is in memory at a time.
+/// Checks each line of the input as a record of the game, and writes the verdict before it reads the next line. Skips
+/// the lines of call logs. Only one line is in memory at a time.
 pub fn check_records<G: Game, R: Read, W: Write>(
     alloc: Global,
     is_json: bool,

@@ -37,8 +37,8 @@ fn alone<G: Drop>(alloc: Global, game: G) -> Result<Vec<G>, AllocError>
     Ok(games)
 }
 
-/// Runs a script on a new desk with these games, and returns the number of bad lines. If `is_interactive`, answers each line at
-/// once.
+/// Runs a script on a new desk with these games, and returns the number of bad lines. If `is_interactive` is true,
+/// answers each line before it reads the next one.
 fn run_desk<G: Game + Drop, R: Read, W: Write>(
     alloc: Global,
     is_interactive: bool,
@@ -100,7 +100,7 @@ fn perform<G: Game + Drop, R: Read, W: Write>(
     }
 }
 
-/// Runs a command for this game. The input is the file that the request names, or else the reader.
+/// Runs a command for this game. The input is the file that the request names, or else what the reader gives.
 fn perform_on<F: Files, G: Game + Drop, R: Read, W: Write>(
     files: &F,
     alloc: Global,

@@ -5,7 +5,7 @@ use desk_text::ReplayFault;
 use game_core::Limits;
 use std::alloc::Global;
 
-/// The cause of a command's error, or what it skipped. It is `Nothing` if the command ran out of memory.
+/// The cause of a command's error, or what the command skipped. It is `Nothing` if the command ran out of memory.
 #[derive(Drop)]
 pub enum Evidence {
     Nothing,
@@ -15,7 +15,7 @@ pub enum Evidence {
     Description(Vec<u8>, Limits, DescriptionFault),
     /// A script with a bad line.
     Script(Vec<u8>),
-    /// A text that is not JSON, but should be a record.
+    /// A text that should be a record, but is not JSON.
     Record(Vec<u8>),
     /// A refused call log, and the number of lines before it.
     Account(Vec<u8>, u64, ReplayFault),

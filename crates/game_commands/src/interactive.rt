@@ -1,4 +1,4 @@
-//! A desk that answers each line before it reads the next one, for a program at the other end of the streams.
+//! A desk that answers each line before it reads the next one, so that another program can use it over the streams.
 ghost use Rattle.std.specs.Prelude.{◌≡◌, ◌≤◌, ◌∷◌, [], ℕ, List, IfErr, IfOk, OnOk};
 ghost use Rattle.std.specs.Io.KnownBytes.{Appends, Consumes, IsAtEnd};
 ghost use Rattle.std.specs.Str.Lines.{lines};
@@ -91,8 +91,9 @@ fn write_records<G: Game, W: Write>(
     Ok(())
 }
 
-/// Answers each line of a script on a new desk with these games before it reads the next one. At the end it writes the record of each
-/// match, in the order in which they were opened. A line may be as long as a whole script. Returns the number of bad lines.
+/// Answers each line of a script on a new desk with these games before it reads the next line. At the end, writes the
+/// record of each match, in the order in which the matches were opened. A line may be as long as a whole script.
+/// Returns the number of bad lines.
 pub fn run_interactive<R: Read, W: Write, G: Game + Drop>(
     alloc: Global,
     reader: &mut Counted<R>,

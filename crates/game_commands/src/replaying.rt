@@ -18,10 +18,10 @@ use std::mem;
 use whole_streams::laws::lines_are_taken;
 use whole_streams::{LineBuffer, NextLine, write_all};
 
-/// The largest size of a call log in bytes: 256 MiB. The end of each line counts as two bytes.
+/// The largest size of a call log, in bytes: 256 MiB. Each line end counts as two bytes.
 const MAX_ACCOUNT: usize = 268_435_456;
 
-/// The number of matches that are not over. There is at least one if the last calls are missing from the call log.
+/// The number of matches that are not over. If the call log lacks its last calls, there is at least one.
 fn open_matches<G: Game>(manager: &Manager<G>) -> usize
     ensures { result ≡ open_matches G.rules manager.now }
 {
@@ -35,8 +35,8 @@ fn open_matches<G: Game>(manager: &Manager<G>) -> usize
     count
 }
 
-/// The output line for a replayed call log, with the number of calls and of matches that are not over. As JSON, it also has the number of
-/// all matches.
+/// The output line for a replayed call log, with the number of calls and the number of matches that are not over. As
+/// JSON, it also has the number of all matches.
 fn replayed_line(
     alloc: Global,
     is_json: bool,
@@ -79,8 +79,8 @@ fn refused_line(alloc: Global, verdict: &str, line: u64) -> Result<String, Alloc
     format!(in alloc; "{{\"verdict\":\"{verdict}\",\"line\":{line}}}\n")
 }
 
-/// The output for a refused call log that follows `before` lines of other logs: the verdict as JSON, or else the correct
-/// line, if there is one.
+/// The output for a refused call log that follows `before` lines of other call logs. As JSON, it is the verdict; in
+/// plain text, the correct line, if there is one.
 fn refused_output(
     alloc: Global,
     is_json: bool,
@@ -106,7 +106,7 @@ fn refused_output(
     }
 }
 
-/// The program's error for a refused call log that follows `before` lines of other logs.
+/// The program's error for a refused call log that follows `before` lines of other call logs.
 fn replay_fault(before: u64, fault: &ReplayFault) -> Fault
     requires { IsNumbered before fault.now }
     ensures { result ≡ replay_fault before fault.now }
@@ -118,10 +118,10 @@ fn replay_fault(before: u64, fault: &ReplayFault) -> Fault
     }
 }
 
-/// A call log that is being read. The next record ends it.
+/// A call log that is being read. The next record, or the end of the input, ends it.
 #[derive(Drop)]
 struct OpenAccount {
-    /// Its lines so far, each with a carriage return and a line feed.
+    /// The lines so far, each with a carriage return and a line feed.
     text: Vec<u8>,
     /// The number of lines of earlier call logs.
     before: u64,
@@ -129,7 +129,8 @@ struct OpenAccount {
     is_json: bool,
 }
 
-/// Writes the output for a refused call log, stores the log as evidence, unless memory ran out, and returns the error.
+/// Writes the output for a refused call log and returns the error. Stores the call log as evidence, unless memory ran
+/// out.
 fn refuse(
     alloc: Global,
     account: OpenAccount,
@@ -156,8 +157,8 @@ fn refuse(
     Err(refused)
 }
 
-/// Replays a call log on a new desk with these games, and returns the number of calls. If the log is refused, the output is that of
-/// `refuse`. If memory runs out, there is no output.
+/// Replays a call log on a new desk with these games, and returns the number of calls. If the call log is refused, the
+/// output is the output of `refuse`. If memory runs out, there is no output.
 fn answer<G: Game + Drop>(
     alloc: Global,
     games: Vec<G>,
@@ -183,9 +184,9 @@ fn answer<G: Game + Drop>(
 }
 
 impl OpenAccount {
-    /// Appends a line, unless it begins with a brace; records begin with a brace, and lines of call logs do not. Returns
-    /// whether the line begins with a brace. Returns an error if the log would have more than 256 MiB, or if memory runs
-    /// out.
+    /// Appends a line, unless it begins with a brace. Records begin with a brace; lines of call logs do not. Returns
+    /// whether the line begins with a brace. Returns an error if the call log would have more than 256 MiB, or if
+    /// memory runs out.
     fn push(&mut self, line: &[u8]) -> Result<bool, Fault>
         requires { length self.old.text.items ≤ max_account }
         ensures told { IfOk result (λ is_record. is_record ≡ begins_as_record line.now) }
@@ -207,8 +208,8 @@ impl OpenAccount {
         Ok(false)
     }
 
-    /// Replays the call log, writes the output for it, and begins the next log. A log without lines is skipped, unless it is the only one
-    /// of the input.
+    /// Replays the call log, writes the output for it, and begins the next call log. Skips a call log without lines,
+    /// unless it is the only one of the input.
     fn end<G: Game, W: Write>(
         &mut self,
         alloc: Global,
@@ -244,8 +245,8 @@ impl OpenAccount {
     }
 }
 
-/// Reads the call logs of an input, and replays each on a new desk. A line that begins as a record does ends a call log.
-/// Writes the output for a log before it reads the next one.
+/// Reads the call logs of an input, and replays each on a new desk. A line that begins as a record does ends a call
+/// log. Writes the output for each call log before it reads the next one.
 pub fn replay_accounts<R: Read, W: Write, G: Game>(
     alloc: Global,
     is_json: bool,

@@ -16,7 +16,7 @@ use std::alloc::Global;
 use std::borrow::CowSlice;
 use std::rt::Files;
 
-/// The text of a description. A file must fit within these limits.
+/// The text of a description. If it is a file, the file must be within these limits.
 pub fn rules_text<'a, F: Files>(
     files: &F,
     alloc: Global,
@@ -69,7 +69,7 @@ pub fn player_rules_fault(text: Vec<u8>, fault: KifFault, evidence: &mut Evidenc
     }
 }
 
-/// The limits for a game's description. Countdown has the usual limits.
+/// The limits for a game's description; for Countdown, the usual limits.
 pub fn limits_of(game: GameSource<'_>) -> Limits
     ensures { result ≡ limits_of game.entry }
 {
@@ -79,7 +79,7 @@ pub fn limits_of(game: GameSource<'_>) -> Limits
     }
 }
 
-/// The text of a game's rules for players. Countdown's rules are in the program.
+/// The text of a game's rules for players. The program contains Countdown's rules.
 pub fn source_text<'a, F: Files>(
     files: &F,
     alloc: Global,

@@ -1,4 +1,4 @@
-//! Runs a script on a desk: reads it whole, answers each line, and writes the answers and then the records.
+//! Runs a script on a desk: reads the whole script, answers each line, and then writes the answers and the records.
 ghost use Rattle.std.specs.Prelude.{◌≡◌, ℕ, List, length, IfOk, OnOk, IfErr};
 ghost use Rattle.std.specs.Io.KnownBytes.{Consumes, Appends, IsAtEnd};
 ghost use Rattle.std.specs.Str.Lines.{lines};
@@ -15,9 +15,9 @@ use whole_streams::{read_to_end, write_all};
 
 pub(crate) const MAX_SCRIPT: usize = 1_048_576;
 
-/// Reads a whole script, answers each line on a new desk with these games, and writes the answers and then the record of each
-/// match, in the order in which the matches were opened. Returns the number of bad lines. A script with a bad line is stored as
-/// evidence.
+/// Reads a whole script, answers each line on a new desk with these games, and writes the answers and then the record
+/// of each match, in the order in which the matches were opened. Returns the number of bad lines. If there is a bad
+/// line, stores the script as evidence.
 pub fn run_script<R: Read, W: Write, G: Game + Drop>(
     alloc: Global,
     reader: &mut Counted<R>,

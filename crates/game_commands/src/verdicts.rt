@@ -1,4 +1,4 @@
-//! The verdicts on the lines of a file of records, and the output for them.
+//! The verdicts on the lines of a file of records, and the output for these verdicts.
 ghost use Rattle.std.specs.Prelude.{◌≡◌, ◌≤◌, ◌-◌, ◌∷◌, [], IfOk, length, slice_get, string_bytes};
 ghost use Rattle.game_commands.specs.Verdicts.{IsVerdict, count_skipped, count_unlawful, verdict_line};
 
@@ -13,7 +13,7 @@ use std::alloc::{AllocError, Global};
 pub enum Verdict {
     /// The line is a lawful record.
     Lawful,
-    /// The line is not a lawful record. This is the first test that failed.
+    /// The line is not a lawful record. This is the first check that failed.
     Unlawful(VerifyFault),
     /// The line has the form of a line of a call log.
     Account,
@@ -33,7 +33,7 @@ pub fn verdict_on<G: Game>(alloc: Global, game: &G, text: &[u8]) -> Result<Verdi
     }
 }
 
-/// The output for a verdict. In plain text it is empty for a line of a call log.
+/// The output for a verdict. In plain text, the output for a line of a call log is empty.
 pub fn verdict_line(alloc: Global, is_json: bool, verdict: Verdict) -> Result<String, AllocError>
     ensures { IfOk result (λ line. string_bytes line ≡ verdict_line is_json verdict) }
 {

@@ -17,14 +17,14 @@ use Rattle.command_faults.specs.declared.files.NamedFile.TheVariants.{Records}
 use Rattle.ggp_commands.specs.Schedules.{GoesTo, WritesPlans, WritesPlansUpTo}
 use Rattle.matches_to_play.specs.ToPlay.{AreLeft, AreToPlay, AreUndone, HasNoPlans}
 
--- With fewer matches at once, the same is written.
+-- If fewer matches are played at once, the same output is written.
 pub same_output : {P : Type 0} (is_reached : RolePlace → PlayerAddress → P → Type 0) (handed : P → Option (List Handed)) (game : PlayableGame) (whole form : SeasonForm) (plans : List MatchPlan) (missing : ℕ) (old new : Option (List ℕ))
     → form ≡ record whole { at_once = form.at_once }
     → WritesAllBut (IsOutputOf is_reached handed game plans form.has_history) form.order missing (length plans) old new → WritesPlans is_reached handed game whole plans missing old new
 same_output is_reached handed game whole form plans missing old new same written =
     subst (λ (f : SeasonForm). WritesAllBut (IsOutputOf is_reached handed game plans f.has_history) f.order missing (length plans) old new) same written
 
--- The matches for a file of records were written to that file, and the output does not change.
+-- The outputs of the matches were written to the file of records, and the output does not change.
 pub written_to_file : {P F : Type 0} (is_reached : RolePlace → PlayerAddress → P → Type 0) (handed : P → Option (List Handed)) (game : PlayableGame) (season : SeasonPlan) (schedule : List ℕ) (records : Option F) (path : F) (plans : List MatchPlan) (missing : ℕ) (old : Option (List ℕ))
     → records ≡ Some path → AreUndone game.game.now season.strikes season.done schedule plans
     → ((left : List MatchPlan) × AreLeft game.game.now (Some path) plans left × ((before : Option (List ℕ)) × (after : Option (List ℕ)) × WritesPlans is_reached handed game season.form left missing before after))
@@ -33,7 +33,7 @@ written_to_file is_reached handed game season schedule records path plans missin
     subst (λ r. (played : List MatchPlan) × AreToPlay game.game.now season.strikes season.done r schedule played × GoesTo r (WritesPlans is_reached handed game season.form played missing) old old)
     (sym is) (found.0, (plans, undone, found.1), (refl, found.2))
 
--- The season ends as the call that plays its matches into the file.
+-- The season ends as the call ends that plays its matches into the file.
 pub season_into_file : {P F : Type 0} (is_reached : RolePlace → PlayerAddress → P → Type 0) (handed : P → Option (List Handed)) (game : PlayableGame) (season : SeasonPlan) (schedule : List ℕ) (records : Option F) (path : F) (plans : List MatchPlan) (old : Option (List ℕ))
     → records ≡ Some path → AreUndone game.game.now season.strikes season.done schedule plans
     → (result : Result ℕ Fault)
@@ -42,7 +42,7 @@ pub season_into_file : {P F : Type 0} (is_reached : RolePlace → PlayerAddress 
 season_into_file is_reached handed game season schedule records path plans old is undone (Ok missing) found = written_to_file is_reached handed game season schedule records path plans missing old is undone found
 season_into_file is_reached handed game season schedule records path plans old is undone (Err fault) found = found
 
--- The file was lost after the matches were played: what holds for the call that plays them holds for the season.
+-- The file was lost after the matches were played. What holds for the call that plays them also holds for the season.
 pub lost_file : {P F : Type 0} (is_reached : RolePlace → PlayerAddress → P → Type 0) (handed : P → Option (List Handed)) (game : PlayableGame) (season : SeasonPlan) (schedule : List ℕ) (records : Option F) (path : F) (plans : List MatchPlan) (fault : Fault) (old : Option (List ℕ))
     → records ≡ Some path → AreUndone game.game.now season.strikes season.done schedule plans
     → (fault ≡ WriteFault) × ((missing : ℕ) × (left : List MatchPlan) × AreLeft game.game.now (Some path) plans left × ((before : Option (List ℕ)) × (after : Option (List ℕ)) × WritesPlans is_reached handed game season.form left missing before after))

@@ -1,9 +1,9 @@
--- How many matches at once the descriptors allow.
+-- How many matches the descriptors allow at once.
 use Rattle.std.specs.Prelude.{◌<◌, ◌≤◌, ◌+◌, ◌*◌, ◌⊎◌, ℕ}
 use Rattle.network_players.specs.Lookups.{lookup_descriptors}
 
--- The descriptors suffice for this many matches at once: one for each player, a number for the lookups of hosts, and 16 for everything
--- else. One match is always allowed.
+-- The descriptors are enough for this many matches at once: one for each player, some for looking up hosts, and 16 for everything else. One
+-- match is always allowed.
 abbrev pub Allows : ℕ → ℕ → ℕ → Type 0
 Allows descriptors players matches = (matches ≤ 1) ⊎ (matches * players + 16 + lookup_descriptors descriptors ≤ descriptors)
 

@@ -17,7 +17,7 @@ use Rattle.command_faults.specs.declared.fault.Fault.{Fault}
 use Rattle.command_faults.specs.declared.fault.Fault.TheVariants.{WrongUse, Memory, WriteFault, NoAnswer, NotSent, Refused, MatchNotEnded, Shortage, NoRecords, NotLawful, UnlawfulRecords, NoEntry, Differs, BadLines, BadAnswers}
 use Rattle.command_faults.specs.Faults.{status_of as plain_status}
 
--- The error means that the answer is no: the command has finished, and its check has failed.
+-- The error is a negative answer: the command has finished, and its check has failed.
 abbrev pub is_no : Fault → Bool
 is_no NoAnswer = true
 is_no (NotLawful fault) = true
@@ -28,7 +28,7 @@ is_no (BadLines count) = true
 is_no (BadAnswers count) = true
 is_no fault = false
 
--- The exit status for an error. The Bool says whether the command line has `--why`.
+-- The exit status for an error. The Bool says whether the command line has `--why` or `--json`.
 abbrev pub status_of : Bool → Fault → ℕ
 status_of false fault = plain_status fault
 status_of true fault = if is_no fault then 1 else 2
@@ -59,7 +59,7 @@ command_fault (CommandNotSent shortage) = NotSent shortage
 command_fault CommandWriteFault = WriteFault
 command_fault CommandMemory = Memory
 
--- the error of a task, from its number of matches without a record or of bad answers, or from the error with which it ended
+-- the error of a task, given its number of matches without a record or of bad answers, or the error with which it ended
 abbrev pub task_fault : MatchTask → Result ℕ Fault → Fault
 task_fault (Check plan) (Ok count) = BadAnswers count
 task_fault task (Ok count) = NoRecords count

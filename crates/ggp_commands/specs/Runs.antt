@@ -15,18 +15,18 @@ use Rattle.command_line.specs.declared.tasks.RunPlan.{RunPlan}
 use Rattle.command_faults.specs.declared.fault.Fault.{Fault}
 use Rattle.command_faults.specs.declared.fault.Fault.TheVariants.{Refused, WriteFault}
 
--- The record of a match was written, and its call log if the plan asks for it. The match has this plan and is of this game. Its players
--- were reached at the addresses of their roles, and got the game's rules.
+-- The record of a match was written, followed by its call log if the plan asks for it. The match has this plan, and is a match of this
+-- game. Its players were reached at the addresses of their roles, and got the game's rules.
 abbrev pub WritesRun : {P : Type 0} → (RolePlace → PlayerAddress → P → Type 0) → (P → Option (List Handed)) → PlayableGame → RunPlan → Option (List ℕ) → Option (List ℕ) → Type 0
 WritesRun is_reached handed game run old new = (line : List ℕ) × (history : _) × IsPlannedMatch is_reached handed game 0 run.plan line history
     × Appends old new (match_text line history run.has_history)
 
--- a match of this game with this plan is not opened, for this reason
+-- a desk refuses a match of this game with this plan, for this reason
 abbrev pub IsRefusedFor : PlayableGame → MatchPlan → Refusal → Type 0
 IsRefusedFor game plan reason = (setup : Setup) × IsSetupOf plan setup × (packed_refusal game.game.now setup ≡ Some reason)
 
--- What a single match that ended with this error has written: a prefix of its output if a write failed, and otherwise nothing. If the
--- error is a refusal, the match was refused for this reason.
+-- What a single match that ended with this error has written: a prefix of its output if a write failed, and otherwise nothing. If the error
+-- is a refusal, it has the reason for which the match was refused.
 abbrev pub WritesRunUpTo : {P : Type 0} → (RolePlace → PlayerAddress → P → Type 0) → (P → Option (List Handed)) → PlayableGame → RunPlan → Option (List ℕ) → Option (List ℕ) → Fault → Type 0
 WritesRunUpTo is_reached handed game run old new WriteFault = (line : List ℕ) × (history : _) × IsPlannedMatch is_reached handed game 0 run.plan line history
     × AppendsPart old new (match_text line history run.has_history)

@@ -1,4 +1,4 @@
--- The matches of a season that are played.
+-- The matches of a season that must be played.
 use Rattle.std.specs.Prelude.{◌≡◌, ◌⊎◌, ℕ, Bool, true, false, List, MatchOption, Option, is_some, length, not}
 use Rattle.command_faults.specs.declared.fault.Fault.{Fault}
 use Rattle.command_faults.specs.declared.fault.Fault.TheVariants.{WriteFault}
@@ -21,8 +21,8 @@ abbrev pub has_schedule : MatchTask → Bool
 has_schedule (Season plan) = true
 has_schedule task = false
 
--- The outputs of these matches were written, as the form asks, except for the missing ones. Each match is of this game. Its players were
--- reached at the addresses of their roles, and got the game's rules.
+-- The outputs of these matches, except the missing ones, were written in the form that was asked for. Each match is a match of this game.
+-- Its players were reached at the addresses of their roles, and got the game's rules.
 abbrev pub WritesPlans : {P : Type 0} → (RolePlace → PlayerAddress → P → Type 0) → (P → Option (List Handed)) → PlayableGame → SeasonForm → List MatchPlan → ℕ → Option (List ℕ) → Option (List ℕ) → Type 0
 WritesPlans is_reached handed game form plans missing old new = WritesAllBut (IsOutputOf is_reached handed game plans form.has_history) form.order missing (length plans) old new
 
@@ -31,22 +31,22 @@ abbrev pub WritesPlansUpTo : {P : Type 0} → (RolePlace → PlayerAddress → P
 WritesPlansUpTo is_reached handed game form plans fault old new =
     (why : SeasonFault) × (fault ≡ season_fault why) × WritesUpTo (IsOutputOf is_reached handed game plans form.has_history) form.order (length plans) old new why
 
--- This is written to the output; or, if a file is named, it is written to that file, and the output does not change.
+-- This is written to the named file, and the output does not change. If no file is named, this is written to the output.
 abbrev pub GoesTo : {F : Type 0} → Option F → (Option (List ℕ) → Option (List ℕ) → Type 0) → Option (List ℕ) → Option (List ℕ) → Type 0
 GoesTo file Writes old new = MatchOption file (Writes old new) (λ name. (new ≡ old) × ((before : Option (List ℕ)) × (after : Option (List ℕ)) × Writes before after))
 
--- The outputs of the matches to play were written, to the output or to the file of records, except for the missing ones.
+-- The outputs of the matches to play, except the missing ones, were written to the output or to the file of records.
 abbrev pub WritesSeason : {P : Type 0} → (RolePlace → PlayerAddress → P → Type 0) → (P → Option (List Handed)) → PlayableGame → SeasonPlan → List ℕ → ℕ → Option (List ℕ) → Option (List ℕ) → Type 0
 WritesSeason is_reached handed game season schedule missing old new = (plans : List MatchPlan) × AreToPlay game.game.now season.strikes season.done season.records schedule plans
     × GoesTo season.records (WritesPlans is_reached handed game season.form plans missing) old new
 
--- The season was played, but then the path of its file of records no longer named that file. The error is a write fault.
+-- The season was played, but afterwards the path of its file of records no longer named that file. The error is a write fault.
 abbrev pub LosesFile : {P : Type 0} → (RolePlace → PlayerAddress → P → Type 0) → (P → Option (List Handed)) → PlayableGame → SeasonPlan → List ℕ → Fault → Option (List ℕ) → Option (List ℕ) → Type 0
 LosesFile is_reached handed game season schedule fault old new = (is_some season.records ≡ true) × (fault ≡ WriteFault)
     × ((missing : ℕ) × WritesSeason is_reached handed game season schedule missing old new)
 
--- What a season that ended with this error has written: nothing if there are no plans, everything if its file of records was lost
--- afterwards, and otherwise the outputs before the error.
+-- What a season that ended with this error has written: nothing if there are no plans, everything if its file of records was lost after the
+-- last match, and otherwise the outputs before the error.
 abbrev pub WritesSeasonUpTo : {P : Type 0} → (RolePlace → PlayerAddress → P → Type 0) → (P → Option (List Handed)) → PlayableGame → SeasonPlan → List ℕ → Option (List ℕ) → Option (List ℕ) → Fault → Type 0
 WritesSeasonUpTo is_reached handed game season schedule old new fault =
     ((HasNoPlans game.game.now season.strikes season.done season.records schedule fault × (new ≡ old))

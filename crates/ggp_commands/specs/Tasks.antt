@@ -29,8 +29,8 @@ use Rattle.ggp_commands.specs.LoadedGame.{IsNotLoadedGame, IsLoadedGame}
 use Rattle.ggp_commands.specs.Runs.{WritesRun, WritesRunUpTo}
 use Rattle.ggp_commands.specs.Schedules.{WritesSeason, WritesSeasonUpTo}
 
--- The task wrote the output of its match, or of each match to play except the missing ones, or the table of its check. `count` is the
--- number of missing matches, or of bad answers in the table.
+-- The task wrote the output of its match, of each match to play except the missing ones, or the table of its check. `count` is the number
+-- of missing matches, or of bad answers in the table.
 abbrev pub WritesTask : (H : Type 0) → {P : Type 0} → (RolePlace → PlayerAddress → P → Type 0) → (P → Option (List Handed)) → PlayableGame → MatchTask → List ℕ → ℕ → Option (List ℕ) → Option (List ℕ) → Type 0
 WritesTask H is_reached handed game (Run run) input count old new = (count ≡ 0) × WritesRun is_reached handed game run old new
 WritesTask H is_reached handed game (Season season) input count old new = WritesSeason is_reached handed game season input count old new
@@ -46,8 +46,8 @@ WritesTaskUpTo H is_reached handed game (Check plan) input old new fault = (why 
 abbrev pub EndsTask : (H : Type 0) → {P : Type 0} → (RolePlace → PlayerAddress → P → Type 0) → (P → Option (List Handed)) → PlayableGame → MatchTask → List ℕ → Option (List ℕ) → Option (List ℕ) → Fault → Type 0
 EndsTask H is_reached handed game task input old new fault = ((fault ≡ Memory) × (new ≡ old)) ⊎ WritesTaskUpTo H is_reached handed game task input old new fault
 
--- This is the input of a task. For a season it is the whole schedule; if a file is named, it may be any text, and the reader does not
--- change. Other tasks read nothing.
+-- This is the input of a task. The input of a season is the whole schedule. If a file is named for the schedule, the schedule may be any
+-- text, and the reader stays unchanged. Other tasks read nothing.
 abbrev pub ReadsInput : {R : Type 0} → (R → Option (List ℕ)) → MatchTask → List ℕ → Counting R → Counting R → Type 0
 ReadsInput remaining (Season season) input reader reader' =
     MatchOption season.schedule (Consumes (remaining reader.stream) (remaining reader'.stream) input × IsAtEnd (remaining reader'.stream)) (λ path. reader' ≡ reader)
@@ -68,7 +68,7 @@ HasNoInput remaining task fault reader reader' = ⊥
 abbrev pub HasNoLog : {F : Type 0} → Option F → Fault → Type 0
 HasNoLog log fault = MatchOption log ⊥ (λ file. IsFileFault Log fault)
 
--- Why a task did not begin: it has no game with rules for its players, or no log, or no input.
+-- Why a task did not begin: it has no game with rules for its players, no log, or no input.
 abbrev pub IsNotBegun : {R : Type 0} → (R → Option (List ℕ)) → GameOptions → MatchTask → Fault → Counting R → Counting R → Type 0
 IsNotBegun remaining plan task fault reader reader' =
     ((IsNotLoadedGame plan fault ⊎ HasNoLog plan.log fault) × (reader' ≡ reader)) ⊎ HasNoInput remaining task fault reader reader'
@@ -79,8 +79,8 @@ Plays H is_reached handed remaining contents plan task reader reader' writer wri
     × IsLoadedGame plan game.game.now game.rules.now × ReadsInput remaining task input reader reader'
     × WritesTask H is_reached handed game task input count (contents writer.stream) (contents writer'.stream)
 
--- Why the task was not run, or did not succeed. If it has no game, no log or no input, it did not begin and wrote nothing. Otherwise
--- the error has the number of missing matches or of bad answers, or the task ended with the error.
+-- Why the task was not run, or did not succeed. If it has no game, no log or no input, it did not begin and wrote nothing. Otherwise the
+-- error has the number of missing matches or of bad answers, or the task ended with this error.
 abbrev pub FailsToPlay : (H : Type 0) → {P R W : Type 0} → (RolePlace → PlayerAddress → P → Type 0) → (P → Option (List Handed)) → (R → Option (List ℕ)) → (W → Option (List ℕ)) → GameOptions → MatchTask → Counting R → Counting R → Counting W → Counting W → Fault → Type 0
 FailsToPlay H is_reached handed remaining contents plan task reader reader' writer writer' fault = (IsNotBegun remaining plan task fault reader reader' × (writer' ≡ writer))
     ⊎ (((count : ℕ) × (count ≢ 0) × (fault ≡ task_fault task (Ok count)) × Plays H is_reached handed remaining contents plan task reader reader' writer writer' count)

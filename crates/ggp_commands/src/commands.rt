@@ -37,16 +37,16 @@ use std::thread::Threads;
 use std::time::Clock;
 use whole_streams::{Pieces, write_all};
 
-/// The standard error of a command, and what to explain there when the command ends.
+/// The standard error of a command, and the things to explain there when the command ends.
 #[derive(Drop)]
 pub struct Reports<E> {
     pub errors: E,
     pub evidence: Evidence,
 }
 
-/// Runs the command with these arguments, and returns the exit status. If it fails, it writes an explanation and the error to `errors`.
-/// Failed writes to `errors` are ignored. On a terminal `errors` also shows the progress of matches. `--why` takes effect only if the
-/// terminals of `around` say that it is on the command line.
+/// Runs the command with these arguments, and returns the exit status. If the command fails, writes an explanation and
+/// the error to `errors`. Ignores failed writes to `errors`. If `errors` is a terminal, it also shows the progress of
+/// matches. `--why` takes effect only if the terminals of `around` say that it is on the command line.
 pub fn command<H, S, R: Read, W: Write, E: Write + Send + Drop>(
     around: &Surroundings<'_, H, S>,
     arguments: &[String],
@@ -85,7 +85,7 @@ where
     end(performed, around.terminals.why, &mut errors)
 }
 
-/// Runs a task, unless it uses one file in two ways that conflict. Reports which file an error is about.
+/// Runs a task, unless it uses one file in two conflicting ways. Reports which file an error is about.
 fn perform<H, S, R: Read, W: Write, E: Write + Send>(
     around: &Surroundings<'_, H, S>,
     task: &Task<'_>,
@@ -116,7 +116,7 @@ fn texts<'a>(alloc: Global, arguments: &'a [String]) -> Result<Vec<&'a str>, All
         .collect(alloc)
 }
 
-/// Reports the error of a command, if it has one. Returns the exit status.
+/// Reports the error of a command, if there is one. Returns the exit status.
 fn end<E: Write>(performed: Result<(), Fault>, why: bool, errors: &mut E) -> u8
     ensures none { OnOk performed (result ≡ 0) }
     ensures some { IfErr performed (λ fault. result ≡ status_of why fault) }
@@ -127,8 +127,8 @@ fn end<E: Write>(performed: Result<(), Fault>, why: bool, errors: &mut E) -> u8
     }
 }
 
-/// Writes the error as a line; errors of the stream are ignored. Returns the exit status. `why` says whether the command line has `--why`
-/// or `--json`.
+/// Writes the error as a line, and returns the exit status. Ignores errors of the stream. `why` says whether the
+/// command line has `--why` or `--json`.
 pub fn report<E: Write>(errors: &mut E, fault: Fault, why: bool) -> u8
     ensures { result ≡ status_of why fault }
 {
@@ -176,7 +176,7 @@ fn prepared<F: Files, R: Read>(
     Ok((loaded_game, log, input))
 }
 
-/// Plays the matches of a task. Returns the output too, so that contracts know its content.
+/// Plays the matches of a task. Also returns the output, so that contracts know its content.
 fn play<'w, N: WriterBrand, H, S, R: Read, W: Write, E: Write + Send>(
     around: &Surroundings<'_, H, S>,
     plan: &GameOptions<'_>,
@@ -222,7 +222,7 @@ where
     (task_end(task, held), writer)
 }
 
-/// Runs a task. Returns the output too, so that contracts know its content.
+/// Runs a task. Also returns the output, so that contracts know its content.
 fn perform_task<'w, N: WriterBrand, H, S, R: Read, W: Write, E: Write + Send>(
     around: &Surroundings<'_, H, S>,
     task: &Task<'_>,

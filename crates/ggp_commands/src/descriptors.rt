@@ -1,4 +1,4 @@
-//! How many matches at once the limit of file descriptors allows.
+//! How many matches the limit of file descriptors allows at once.
 ghost use Rattle.std.specs.Prelude.{◌≡◌, ◌⊎◌, ◌<◌, ℕ, IfNone, IfSome, min};
 ghost use Rattle.ggp_commands.specs.Descriptors.{Allows, IsLargest};
 
@@ -11,11 +11,12 @@ use std::io::Write;
 use std::rt::Files;
 use whole_streams::Pieces;
 
-/// The number of descriptors that are needed besides the players' connections and the lookups of hosts: for the streams and the files.
+/// The number of descriptors for the streams and the files, which are needed besides the players' connections and the
+/// lookups of hosts.
 const KEPT: u64 = 16;
 
-/// The largest number of simultaneous matches with this many players that the descriptors allow, with one connection for each player.
-/// It is at least 1.
+/// The largest number of simultaneous matches with this many players that the descriptors allow, if each player has one
+/// connection. It is at least 1.
 fn allowed_matches(descriptors: u64, players: u64) -> u64
     ensures { IsLargest descriptors players result }
 {
@@ -27,7 +28,7 @@ fn allowed_matches(descriptors: u64, players: u64) -> u64
     }
 }
 
-/// The form of a season with fewer matches at once, if the descriptors do not allow the given form, and otherwise `None`.
+/// The form of the season with fewer matches at once, or `None` if the descriptors allow the given form.
 #[tactic(auto, using(crate::proofs::LargestNumbers::fewer_allowed))]
 fn smaller_form(
     form: SeasonForm,
@@ -50,8 +51,7 @@ fn smaller_form(
     })
 }
 
-/// The form of a season with as many matches at once as the descriptors allow. If these are fewer than in the given form,
-/// reports this.
+/// The given form, with fewer matches at once if the descriptors do not allow so many. In that case, reports this.
 pub fn allowed_form<F: Files, E: Write>(
     files: &F,
     alloc: Global,

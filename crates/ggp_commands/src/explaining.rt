@@ -15,7 +15,7 @@ use whole_streams::Pieces;
 /// What to explain.
 #[derive(Drop)]
 pub enum Subject<'a> {
-    /// The evidence for an error.
+    /// The evidence of an error.
     Evidence(&'a Evidence),
     /// The matches of a schedule that the desk refuses to open.
     Schedule(&'a [u8]),
@@ -43,7 +43,7 @@ fn push_evidence(alloc: Global, evidence: &Evidence, lines: &mut String) -> Resu
     Ok(())
 }
 
-/// Escapes an id so that it fits on one line. An invalid id does not become valid.
+/// Escapes an id so that it fits on one line. An invalid id remains invalid.
 fn one_line(alloc: Global, id: &str) -> Result<String, AllocError> {
     format!(in alloc; "{}", Printable(id))
 }
@@ -77,7 +77,7 @@ fn shown(alloc: Global, lines: &str) -> Result<String, AllocError> {
     Ok(shown)
 }
 
-/// Writes the explanation if `are_wanted`. Errors of the stream are ignored. If memory runs out, nothing is written.
+/// Writes the explanation if `are_wanted` is true. Ignores errors of the stream. If memory runs out, writes nothing.
 pub fn explain<E: Write>(alloc: Global, are_wanted: bool, subject: &Subject<'_>, errors: &mut E) {
     let mut lines = String::new(alloc);
     if are_wanted && push_lines(alloc, subject, &mut lines).is_ok() {

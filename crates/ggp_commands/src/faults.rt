@@ -12,7 +12,7 @@ use match_season::SeasonFault;
 use player_commands::{CheckFault, CommandFault};
 use process_streams::RecordsFault;
 
-/// The exit status for an error. With `--why` it is 1 if the answer is no, and 2 if there is no answer.
+/// The exit status for an error. With `--why`, it is 1 if the error is a negative answer, and 2 for any other error.
 pub fn status_of(fault: Fault, why: bool) -> u8
     ensures { result ≡ status_of why fault }
 {
@@ -87,7 +87,7 @@ pub fn check_fault(fault: CheckFault) -> Fault
     }
 }
 
-/// The result of a command that sends single messages to players.
+/// The result of a command that sends messages to single players.
 pub fn command_end(performed: Result<(), CommandFault>) -> Result<(), Fault>
     ensures { MatchResult performed (λ _. IsOk result) (λ why. result ≡ Err (command_fault why)) }
 {
@@ -101,7 +101,8 @@ pub fn command_end(performed: Result<(), CommandFault>) -> Result<(), Fault>
     }
 }
 
-/// The result of a season, from its number of matches without a record, or of a check, from its number of bad answers.
+/// The result of a season, given its number of matches without a record, or of a check, given its number of bad
+/// answers.
 pub fn task_end(task: &MatchTask<'_>, held: Result<u64, Fault>) -> Result<(), Fault>
     ensures all { OnOk result (held ≡ Ok 0) }
     ensures some { OnErr result (held ≢ Ok 0) }

@@ -1,7 +1,7 @@
-//! The commands of the program `ggp_manager`: those of `game_commands`; `run`, `season` and `check`, which play matches; and `info`
-//! and `abort`, which send single messages to players.
+//! The commands of the program `ggp_manager`: those of `game_commands`; `run`, `season` and `check`, which play
+//! matches; and `info` and `abort`, which send messages to single players.
 //!
-//! `command` runs the command of a command line over any streams, runtime and players; the program passes its own. Free functions take
+//! `command` runs a command line over any streams, runtime and players; the program passes its own. Free functions take
 //! the allocator first, after a handle for threads, waiting or the network.
 #![tactic(auto)]
 

@@ -48,7 +48,7 @@ fn rules_in<F: Files>(
     }
 }
 
-/// The rules for the players: those of the file, if one is named, or else the game's own.
+/// The rules for the players: the rules of the file, if one is named, and otherwise the rules of the game.
 fn rules_for<F: Files>(
     files: &F,
     alloc: Global,
@@ -65,7 +65,7 @@ fn rules_for<F: Files>(
     }
 }
 
-/// The game that a text describes within these limits, and the rules for its players.
+/// The game that a text describes within these limits, with the rules for its players.
 fn loaded_game_of<F: Files>(
     files: &F,
     alloc: Global,
@@ -83,7 +83,7 @@ fn loaded_game_of<F: Files>(
     Ok(LoadedGame { game, rules })
 }
 
-/// Loads the game that the options name, and the rules for its players.
+/// Loads the game that the options name, with the rules for its players.
 pub fn load<F: Files>(
     files: &F,
     alloc: Global,

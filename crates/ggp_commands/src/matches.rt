@@ -97,7 +97,7 @@ pub struct ReadyTask<'t> {
     pub input: &'t [u8],
 }
 
-/// Plays a match, and writes its record, and its call log if the plan asks for it.
+/// Plays a match, and writes its record, followed by its call log if the plan asks for it.
 fn run<H, S, W: Write>(
     around: &Surroundings<'_, H, S>,
     run: &RunPlan<'_>,
@@ -128,7 +128,7 @@ where
 
 const MAX_SCHEDULE: u32 = 16_777_216;
 
-/// Reads the input of a task: the schedule of a season, from its file or the reader, and nothing for other tasks.
+/// Reads the input of a task. A season reads its schedule, from its file or the reader; other tasks read nothing.
 pub fn input_of<F: Files, R: Read>(
     files: &F,
     alloc: Global,
@@ -151,7 +151,7 @@ pub fn input_of<F: Files, R: Read>(
     }
 }
 
-/// Plays matches of a season, and writes their records. Returns the number of matches without a record.
+/// Plays the given matches of a season, and writes their records. Returns the number of matches without a record.
 #[tactic(auto, using(crate::proofs::SeasonEnds::same_output))]
 fn play_plans<'s, H, S, W: Write>(
     around: &Surroundings<'s, H, S>,
@@ -364,7 +364,7 @@ where
     ensures at_fault { IfErr result (EndsTask H (is_logged_reached H (S.is_reached around.now.reach.now)) (logged_handed H S.Player.handed) ready.entry.game ready.entry.task.now ready.entry.input.now (W.contents writer.old.stream) (W.contents writer.new.stream)) }
 {
     let rt = around.rt;
-    // The closure returns the output, so that contracts know its content after the scope.
+    // The closure returns the output, so that contracts know the output's content after the scope.
     let (performed, _writer) = thread::scope(
         thread::scope_env(),
         rt,
@@ -388,9 +388,9 @@ where
     performed
 }
 
-/// Plays matches of a game and reports on them: the log has each message, and `errors` shows the progress if it is a
-/// terminal and the log is not written to it. Matches do not wait for reports to be written. Returns the number of
-/// matches without a record, or of bad answers. Returns the output too, so that contracts know its content.
+/// Plays matches of a game and reports on them. The log has each message; `errors` shows the progress if it is a
+/// terminal and the log is not written to it. Matches do not wait until reports are written. Returns the number of
+/// matches without a record, or of bad answers. Also returns the output, so that contracts know its content.
 pub fn play_with_reports<
     'w,
     N: WriterBrand,

@@ -21,7 +21,7 @@ fn report_on_file<E: Write>(errors: &mut E, path: &str, what: &str) {
     let _ = writeln!(pieces, "ggp_manager: {} {what}", Printable(path));
 }
 
-/// Reports what happened to the file while records were appended to it.
+/// Reports what happened to the file while records were being appended to it.
 pub fn report_state<E: Write>(errors: &mut E, path: &str, state: RecordsState) {
     match state {
         RecordsState::Kept => {}
@@ -43,7 +43,8 @@ pub fn report_state<E: Write>(errors: &mut E, path: &str, state: RecordsState) {
     }
 }
 
-/// Reports that the end of a file was moved to another file: the record in this line and its call log, or an incomplete last line.
+/// Reports that the end of a file was moved to another file. The end is the record in this line with its call log, or
+/// an incomplete last line.
 fn report_torn_end<E: Write>(errors: &mut E, path: &str, first: Option<u64>, torn: &str) {
     let (path, torn) = (Printable(path), Printable(torn));
     let mut pieces = Pieces { stream: errors };
@@ -102,8 +103,8 @@ pub fn records_file<'a, F: LockedFiles, E: Write>(
     }
 }
 
-/// The line number of the last record in the file, if its call log is incomplete. An earlier record with an incomplete call log is an
-/// error.
+/// The line number of the last record in the file, if its call log is incomplete. If an earlier record has an
+/// incomplete call log, this returns an error.
 pub fn last_partial<F: Files, E: Write>(
     files: &F,
     alloc: Global,
@@ -128,8 +129,8 @@ pub fn last_partial<F: Files, E: Write>(
     }
 }
 
-/// Moves the incomplete end of the file to another file, and reports this. The end is a last line without a line feed or,
-/// if there is a `first` line to move, the last record with its call log.
+/// Moves the incomplete end of the file to another file, and reports this. The end is the last record, which is in the
+/// line `first`, with its call log; or, without `first`, a last line without a line feed.
 pub fn mend_records<F: LockedFiles, E: Write>(
     file: &mut RecordsFile<'_, F, <F as Files>::File>,
     alloc: Global,

@@ -47,7 +47,7 @@ fn game_at<F: Files>(
     game_of(alloc, limits_of(source), &text, evidence)
 }
 
-/// Reports which file an error of a game is about.
+/// Reports which source an error of a game is about.
 fn report_source<E: Write>(errors: &mut E, source: GameSource<'_>, fault: Fault) {
     if let Some(path) = rules_file(source) {
         let mut pieces = Pieces { stream: errors };
@@ -55,7 +55,7 @@ fn report_source<E: Write>(errors: &mut E, source: GameSource<'_>, fault: Fault)
     }
 }
 
-/// The games of a desk, in the order of their numbers.
+/// The games of a desk, in the order of the sources.
 fn games_of<F: Files, E: Write>(
     files: &F,
     alloc: Global,
@@ -77,7 +77,7 @@ fn games_of<F: Files, E: Write>(
     Ok(games)
 }
 
-/// Reports why clients cannot connect. Returns the program's error.
+/// Reports why clients cannot connect, and returns the program's error.
 fn not_listening<E: Write>(errors: &mut E, address: &str, error: io::Error) -> Fault {
     if let ErrorKind::OutOfMemory = error.kind() {
         return Fault::Memory;
@@ -188,7 +188,7 @@ fn keep<F: LockedFiles, E: Write>(
     }
 }
 
-/// Tells clients where to connect.
+/// Prints the address at which clients can connect.
 fn print_address<W: Write>(
     listener: &Listener,
     alloc: Global,
@@ -199,7 +199,7 @@ fn print_address<W: Write>(
     Ok(write_all(writer, row.as_bytes())?)
 }
 
-/// Serves the games at a socket, and writes the call log and the records to their files.
+/// Serves the games at a socket until the input ends, and writes the call log and the records to their files.
 fn serve_at<H, R: Read, W: Write, E: Write>(
     around: &ServiceSurroundings<'_, H>,
     plan: &ServicePlan<'_>,
@@ -222,7 +222,8 @@ where
     keep(alloc, &closed, files, plan.records, errors)
 }
 
-/// Listens at the address of the plan, and serves its games until the input ends. Removes the socket file that it has made.
+/// Listens at the address of the plan, and serves the plan's games until the input ends. At the end, removes the socket
+/// file that it has made, if there is one.
 pub fn serve<H, R: Read, W: Write, E: Write>(
     rt: &H,
     alloc: Global,

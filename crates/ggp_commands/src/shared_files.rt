@@ -1,4 +1,5 @@
-//! The files and streams of a command: finds files that are used in two ways, and says which file an error is about.
+//! The files and streams of a command. Finds files that are used in two conflicting ways, and reports which file an
+//! error is about.
 
 use command_faults::{Fault, FileFault, NamedFile, Printable, report_unusable_file};
 use command_line::{GameOptions, MatchTask, SeasonPlan, Task};
@@ -42,7 +43,7 @@ impl Role {
         }
     }
 
-    /// The use of the file, as errors name it.
+    /// The use of the file, as error messages name it.
     fn named(self) -> NamedFile {
         match self {
             Role::Rules => NamedFile::Rules,
@@ -62,7 +63,7 @@ impl Role {
     }
 }
 
-/// A file or stream that a command uses, with its path. Standard streams have a path in `/proc`.
+/// A file or stream that a command uses, with its path. The path of a standard stream is in `/proc`.
 #[derive(Clone, Copy)]
 struct Used<'a> {
     role: Role,
@@ -151,8 +152,8 @@ fn is_empty<F: Files>(files: &F, path: &str) -> bool {
     }
 }
 
-/// Whether using one file in these two ways would destroy it or the output. `--done` and `--records` may name the same
-/// file, and standard output may be appended to the `--done` file.
+/// Whether using one file in these two ways would destroy the file or the output. `--done` and `--records` may name the
+/// same file, and standard output may be appended to the `--done` file.
 fn are_at_odds<F: Files>(files: &F, one: Used<'_>, other: Used<'_>) -> bool {
     if !one.role.is_written() && !other.role.is_written() {
         return false;
@@ -162,7 +163,7 @@ fn are_at_odds<F: Files>(files: &F, one: Used<'_>, other: Used<'_>) -> bool {
         (Role::Output, Role::Done) if !is_empty(files, other.path) => return false,
         _ => {}
     }
-    // Two files with the same path that do not exist yet will become one file.
+    // If two files have the same path but do not exist yet, they will become one file.
     one.path == other.path || is_one_file(files, one.path, other.path)
 }
 
@@ -182,7 +183,7 @@ fn report_shared<F: Files, E: Write>(files: &F, one: Used<'_>, other: Used<'_>, 
     );
 }
 
-/// Refuses a command that writes to a regular file and uses the same file in another way.
+/// Refuses a command that writes to a regular file and also uses this file in another way.
 pub fn refuse_shared<F: Files, E: Write>(
     files: &F,
     alloc: Global,
@@ -201,7 +202,7 @@ pub fn refuse_shared<F: Files, E: Write>(
     Ok(())
 }
 
-/// Reports which file an error is about, unless that was already reported.
+/// Reports which file an error is about, unless this was already reported.
 pub fn report_faulty_file<E: Write>(alloc: Global, task: &Task<'_>, fault: Fault, errors: &mut E) {
     let Fault::File(named, why) = fault else {
         return;
@@ -211,7 +212,7 @@ pub fn report_faulty_file<E: Write>(alloc: Global, task: &Task<'_>, fault: Fault
     };
     for file in &used {
         let is_it = match file.role {
-            // A desk that listens may have several games, and has reported which one cannot be used.
+            // A desk that listens may have several games. It has already reported which one cannot be used.
             Role::Rules => matches!(named, NamedFile::Rules) && !matches!(task, Task::Serve(_)),
             Role::PlayerRules => matches!(named, NamedFile::PlayerRules),
             Role::NamedInput => matches!(named, NamedFile::Input),

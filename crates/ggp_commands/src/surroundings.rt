@@ -11,7 +11,7 @@ pub struct Terminals {
 }
 
 impl Terminals {
-    /// Whether to explain errors on standard error. If a program reads standard error, it gets only the error itself,
+    /// Whether to explain errors on standard error. A program that reads standard error gets only the error itself,
     /// unless it asks for more.
     pub fn explain(self) -> bool {
         self.errors || self.why

@@ -28,7 +28,8 @@ fn command_line(rt: &HostRuntime) -> io::Result<Vec<String>> {
     Ok(env::args(rt)?.skip(1).collect(rt.alloc())?)
 }
 
-/// How many matches a command may play: for `season` one for each match of the schedule, for all other commands one.
+/// The largest number of matches that a command may play: one for each possible match of a schedule for `season`, and 1
+/// for all other commands.
 fn places(arguments: &[String]) -> usize
     ensures { 0 < result }
 {
@@ -46,12 +47,12 @@ fn fault_of(error: &io::Error) -> Fault {
     }
 }
 
-/// Reports an error that occurred before any command. Returns the program's exit status.
+/// Reports an error that occurred before a command began, and returns the program's exit status.
 fn ended<E: Write>(errors: &mut E, fault: Fault, why: bool) -> ExitCode {
     ExitCode::from(report(errors, fault, why))
 }
 
-/// What a command gets from the process besides its runtime and network.
+/// What a command gets from the process, besides its runtime and its network.
 #[derive(Drop)]
 struct Process<I, O, E> {
     alloc: Global,

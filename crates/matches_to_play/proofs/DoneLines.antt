@@ -1,4 +1,4 @@
--- Adding the matches of lines one after another.
+-- Adding the matches of lines, line by line.
 use Rattle.std.proofs.Common.{◌≡◌, ◌⊎◌, ◌↔◌, ◌∙◌, true, false, List, ℕ, [], ◌∷◌, ◌++◌, Option, Some, None, inl, inr, ap, arith, subst, sym}
 use Rattle.std.specs.Prelude.{Contains, bytes_eq}
 use Rattle.std.specs.List.{list_any}
@@ -6,7 +6,7 @@ use Rattle.std.proofs.lemmas.List.Elements.{Contains-append_left, Contains-push,
 use Rattle.game_core.specs.Play.{Rules}
 use Rattle.matches_to_play.specs.Done.{AreNamesOf, IsDone, IsDoneIn}
 
--- without lines, no match is over and none was added
+-- if there are no lines, no match is over, and none was added
 pub nothing_noted : {S M K : Type 0} (g : Rules S M) (items : K → List ℕ) (keys : List K) → keys ≡ [] → (names : List ℕ) → (list_any (λ k. bytes_eq names (items k)) keys ≡ true) ↔ IsDoneIn g [] names
 nothing_noted g items keys none names = (no_key, no_line)
   where
@@ -17,7 +17,7 @@ nothing_noted g items keys none names = (no_key, no_line)
     no_line (line, among, is) = let lt = among.1 in absurd (omega arith)
 
 module _ {S M : Type 0} (g : Rules S M) (first : List (List ℕ)) (line : List ℕ) (found : Option (List ℕ)) (of_line : AreNamesOf g line found) (names : List ℕ) where
-  -- a match is over by its record in these lines, or in this one
+  -- a match is over according to its record in these lines, or in this one more line
   pub done_in_more : IsDoneIn g (first ++ line ∷ []) names ↔ (IsDoneIn g first names ⊎ (found ≡ Some names))
   done_in_more = (from_more, to_more)
     where

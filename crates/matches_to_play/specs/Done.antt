@@ -11,7 +11,7 @@ use Rattle.match_book.specs.Phase.{phase}
 use Rattle.record_reading.specs.LawfulRecord.{IsRecordOf}
 use Rattle.matches_to_play.specs.declared.done.DoneMatches.{DoneMatches}
 
--- these names in one text, each followed by a space
+-- these names as one text, with a space after each name
 abbrev pub joined : List (List ℕ) → List ℕ
 joined [] = []
 joined (name ∷ names) = name ++ space ∷ joined names
@@ -36,6 +36,6 @@ AreNamesOf g line found = (names : List ℕ) → (found ≡ Some names) ↔ IsDo
 abbrev pub IsDoneIn : {S M : Type 0} → Rules S M → List (List ℕ) → List ℕ → Type 0
 IsDoneIn g lines names = (line : List ℕ) × Contains lines line × IsDone g line names
 
--- exactly the matches were added that are over according to their records in these lines
+-- the matches that were added are exactly the matches that are over according to their records in these lines
 abbrev pub AreDone : {S M : Type 0} → Rules S M → List (List ℕ) → DoneMatches → Type 0
 AreDone g lines done = (names : List ℕ) → IsTrue (is_noted done names) ↔ IsDoneIn g lines names

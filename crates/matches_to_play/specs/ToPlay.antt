@@ -1,4 +1,4 @@
--- The matches of a season that are played.
+-- The matches of a season that must be played.
 use Rattle.std.specs.Prelude.{◌≡◌, ◌⊎◌, ℕ, Bool, true, List, MatchOption, Option, filter, is_some, map, not}
 use Rattle.std.specs.List.{AllZip}
 use Rattle.std.specs.Str.Lines.{lines}
@@ -22,8 +22,8 @@ is_left noted plan = not (is_noted noted (match_names plan.id.now (map (λ p. p.
 abbrev pub left_of : DoneMatches → List MatchPlan → List MatchPlan
 left_of noted plans = filter (is_left noted) plans
 
--- If a file of finished matches is named, these are the matches that are not over according to the records in the lines of some text;
--- otherwise they are all matches.
+-- If a file of finished matches is named, these are the matches that are not over according to the records in the lines of some text.
+-- Otherwise they are all matches.
 abbrev pub AreLeft : {F : Type 0} → PackedGame → Option F → List MatchPlan → List MatchPlan → Type 0
 AreLeft game file all plans =
     MatchOption file (plans ≡ all) (λ name. (noted : DoneMatches) × ((records : List ℕ) × AreDone (loaded_game (tables_of game)) (lines records) noted) × (plans ≡ left_of noted all))
@@ -36,7 +36,7 @@ AreUndone game strikes done schedule plans = (all : List MatchPlan) × AllZip (I
 abbrev pub AreToPlay : {F G : Type 0} → PackedGame → ℕ → Option F → Option G → List ℕ → List MatchPlan → Type 0
 AreToPlay game strikes done records schedule plans = (undone : List MatchPlan) × AreUndone game strikes done schedule undone × AreLeft game records undone plans
 
--- Why there are no matches: out of memory, the first bad line of the schedule, or the file of finished matches cannot be read.
+-- Why there are no matches: memory ran out, the schedule has a bad line, or the file of finished matches cannot be read.
 abbrev pub HasNoUndone : {F : Type 0} → PackedGame → ℕ → Option F → List ℕ → Fault → Type 0
 HasNoUndone game strikes done schedule fault = (fault ≡ Memory)
     ⊎ (((bad : ScheduleFault) × (fault ≡ schedule_fault bad) × IsBadLine (loaded_game (tables_of game)).roles strikes (cut_lines schedule) bad)

@@ -14,7 +14,7 @@ use std::alloc::{AllocError, Global};
 use std::rt::Files;
 use whole_streams::{LineBuffer, NextLine};
 
-/// The largest size of a call log in bytes, the same as for `replay`.
+/// The largest size of a call log in bytes, as for `replay`.
 const MAX_ACCOUNT: usize = 268_435_456;
 
 /// The end of a line with the reply `over`. The last call of each role gets this reply.
@@ -25,7 +25,7 @@ const OVER: &[u8] = b"\tover";
 pub struct PartialRecord {
     /// The number of the record's line, counted from 1.
     pub line: u64,
-    /// Whether it is the last record of the file.
+    /// Whether this is the last record of the file.
     pub is_last: bool,
 }
 
@@ -36,7 +36,7 @@ struct RecordBlock {
     record: Vec<u8>,
     /// The lines after the record, each with a line feed.
     account: Vec<u8>,
-    /// Whether these lines have more bytes than a call log can have.
+    /// Whether these lines have more bytes than a call log may have.
     is_too_long: bool,
 }
 
@@ -98,7 +98,7 @@ fn is_whole<G: Game>(alloc: Global, game: &G, block: &RecordBlock) -> Result<boo
     gives_record(alloc, games, &block.account, &block.record)
 }
 
-/// Whether the match of a record is over, but the call log of the record is incomplete.
+/// Whether the match of a record is over although the call log of the record is incomplete.
 fn is_partial<G: Game>(alloc: Global, game: &G, block: &RecordBlock) -> Result<bool, AllocError> {
     if is_whole(alloc, game, block)? {
         return Ok(false);
@@ -125,7 +125,7 @@ fn partial_in<G: Game>(
     }
 }
 
-/// The first record of the game in the file at this path whose match is over, but whose call log is incomplete. A last
+/// The first record of the game in the file at this path whose match is over but whose call log is incomplete. A last
 /// line without a line feed does not belong to a call log.
 pub fn partial_record<F: Files, G: Game>(
     files: &F,

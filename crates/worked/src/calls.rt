@@ -57,7 +57,8 @@ fn query(alloc: Global, id: &str) -> Result<Call, AllocError> {
     Ok(Call::Query { id })
 }
 
-/// Whether the line opens a match at this turn, and the match's id. A line that does not open the match queries it.
+/// Whether the line opens a match at this turn, and the match's id. A line that does not open the match queries the
+/// match.
 fn step_of(line: u32, turn: u32) -> (bool, &'static str) {
     match (line, turn) {
         (0, 0) => (true, "m1"),

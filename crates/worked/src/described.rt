@@ -51,7 +51,7 @@ fn described_countdown_is_countdown(rt: HostRuntime) -> Result<(), Fail> {
     Ok(())
 }
 
-/// Rules, a script, and the records at its end.
+/// Rules, a script, and the records at the end of the script.
 type Example = (&'static str, &'static str, &'static str);
 
 const ENDED_AT_ONCE: Example = (
@@ -104,7 +104,7 @@ fn games_end_or_are_aborted(rt: HostRuntime) -> Result<(), Fail> {
 /// The largest number of turns of a match.
 const MOST_TURNS: u32 = 10_000;
 
-/// The script of a match whose only role plays `MOST_TURNS` turns and then asks what is due.
+/// The script of a match whose only role plays `MOST_TURNS` turns and then asks what the match owes to it.
 fn long_script(alloc: Global) -> Result<String, AllocError> {
     let mut script = "open m 0 1 1 ann -> opened\nsubmit m 0 0 x -> taken\n".to_string(alloc)?;
     for round in 1..=MOST_TURNS {
@@ -115,7 +115,7 @@ fn long_script(alloc: Global) -> Result<String, AllocError> {
     Ok(script)
 }
 
-/// The record of that match: all turns are the same, and so are all states.
+/// The record of that match. All turns are equal, and so are all states.
 fn long_record(alloc: Global) -> Result<String, AllocError> {
     let mut record = r#"{"cause":"toolong","endMarks":[null],"errors":["#.to_string(alloc)?;
     push_repeated(&mut record, "[\"\"]", MOST_TURNS)?;

@@ -1,4 +1,4 @@
-//! Descriptions that are refused, each with its first error.
+//! Descriptions that are refused, and the first error of each.
 use crate::holding::holds;
 use ground_rules::{LoadFault, load};
 use kif_text::read_all;

@@ -1,4 +1,4 @@
-//! HTTP exchanges over a stream in memory. In the texts `|` means a line end.
+//! HTTP exchanges over a stream in memory. In the texts, `|` stands for a line end.
 use crate::holding::holds;
 use game_core::{Counted, Text};
 use http_exchange::{WireFault, exchange, give_reply, take_request};
@@ -12,7 +12,7 @@ const REQUEST: &str =
 
 const REPLY: &str = "HTTP/1.0 200 OK|Content-Type: text/acl|Content-Length: 5||READY";
 
-/// A stream with given input. It stores what is written.
+/// A stream with a given input. It stores what is written to it.
 #[derive(Drop)]
 struct MemoryStream {
     input: Vec<u8>,
@@ -43,7 +43,7 @@ impl Write for MemoryStream {
     }
 }
 
-/// The bytes of a text, with line ends.
+/// The bytes of a text, in which `|` becomes a line end.
 fn bytes_of(alloc: Global, text: &str) -> Result<Vec<u8>, AllocError> {
     let mut bytes = Vec::new(alloc);
     for byte in text.as_bytes() {
@@ -68,7 +68,7 @@ fn exchanged(alloc: Global, input: Vec<u8>) -> Result<Text, WireFault> {
     exchange(alloc, &mut stream, b"ann", b"(PLAY m1 NIL)")
 }
 
-/// Whether an exchange returns this body or this error if the player replies with these bytes.
+/// Whether an exchange returns this body, or this error, if the player replies with these bytes.
 fn gives(alloc: Global, input: Vec<u8>, wanted: Result<&str, WireFault>) -> bool {
     match (exchanged(alloc, input), wanted) {
         (Ok(body), Ok(text)) => body.as_slice() == text.as_bytes(),

@@ -28,7 +28,7 @@ fn reply_to_open(
     Ok(reply)
 }
 
-/// Whether a match whose id is this number is opened.
+/// Whether a match whose id is this number can be opened.
 fn is_opened(alloc: Global, manager: &mut Manager<Countdown>, number: u32) -> bool {
     match format!(in alloc; "{number}") {
         Ok(id) => matches!(
@@ -57,7 +57,7 @@ fn a_desk_with_all_its_matches_opens_no_more(rt: HostRuntime) {
     check_full(&rt, rt.alloc(), &mut manager);
 }
 
-/// Fills a desk of one line that takes two calls.
+/// Opens a desk of one line that accepts two calls, and fills it.
 fn fill_desk<L: Ledger, R: Wait + Abort>(rt: &R, alloc: Global, blank: Blank)
     requires name { blank.name ≡ L.name }
     requires parts { blank.parts ≡ L.parts }

@@ -46,7 +46,7 @@ fn ask_in_threads<L: Ledger + Send + Sync, R: Threads + Wait + Sync>(
     thread::map_vec(rt, lines, &|line| make_calls(rt, alloc, desk, line))
 }
 
-/// Tries in vain to close the desk without the last line, and then closes it with all lines.
+/// Fails to close the desk without the last line, and then closes it with all lines.
 fn close_without_the_last<L: Ledger, R: Abort>(
     rt: &R,
     desk: LockDesk<Manager<Countdown>, L>,
@@ -120,7 +120,7 @@ fn run_four_lines<L: Ledger + Send + Sync, R: Threads + Wait + Abort + Sync>(
     }
 }
 
-/// The lines, and the replies of each.
+/// The lines, and the replies of each line.
 fn parted<L: Ledger, R: Abort>(
     rt: &R,
     alloc: Global,

@@ -26,7 +26,8 @@ fn brief(alloc: Global, id: &[u8], role: &str, rules: &[u8]) -> Result<Brief, Fa
     })
 }
 
-/// Whether the message that the match owes to its only role has this text. `told` has the id, the role and the rules of the match.
+/// Whether the message that the match owes to its only role has this text. `told` has the id, the role and the rules of
+/// the match.
 fn is_written(
     alloc: Global,
     told: (&[u8], &str, &[u8]),

@@ -12,7 +12,7 @@ use std::thread;
 use std::thread::Threads;
 use std::time::{Clock, Duration};
 
-/// How many times a player checks for the other one.
+/// How many times a player checks whether the other one has got a message.
 const LOOKS: u32 = 2_000;
 
 /// The largest number of tries of the thread that attends a role.
@@ -26,8 +26,8 @@ enum Act {
     Wait,
 }
 
-/// A player that answers PLAY with `play`, and START and STOP as it should. It counts its messages in a counter that others
-/// can read. If it never sees that another player got a message, it does not answer START.
+/// A player that answers PLAY with `play`, and START and STOP as it should. It counts its messages in a counter that
+/// other players can read. If it never sees that another player got a message, it does not answer START.
 #[derive(Drop)]
 struct ReadyPlayer<'a, C> {
     clock: &'a C,
@@ -114,7 +114,7 @@ fn setup(alloc: Global) -> Result<Setup, AllocError> {
     })
 }
 
-/// Plays a match of Countdown with a heap of one, in which red and blue answer PLAY in this way.
+/// Plays a match of Countdown with a heap of one, in which red and blue answer PLAY with these acts.
 fn refereed<R: Threads + Wait + Clock + Abort + Sync>(
     rt: &R,
     alloc: Global,

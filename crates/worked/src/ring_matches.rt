@@ -1,4 +1,4 @@
-//! A desk over rings, with matches of Countdown.
+//! A desk over rings with matches of Countdown.
 ghost use Rattle.std.specs.Prelude.{◌≤◌};
 ghost use Rattle.call_history.specs.Limits.{max_lines};
 

@@ -1,4 +1,4 @@
-//! A desk over rings, with a register.
+//! A desk over rings with a register.
 ghost use Rattle.std.specs.Prelude.{◌≤◌, IfOk};
 ghost use Rattle.call_history.specs.Limits.{max_entries};
 ghost use Rattle.call_history.specs.RingLines.{IsLineOf, AreEndsOf};
@@ -35,7 +35,7 @@ fn open_two(alloc: Global, most: u64) -> Result<(Desk, Line, Line), AllocError>
     }
 }
 
-/// Adds an end to the ends of lines.
+/// Adds an end to the ends of other lines.
 fn beside<R: Abort>(rt: &R, desk: &Desk, ends: Vec<End>, end: End) -> Vec<End>
     requires ends { AreEndsOf desk.now.ports ends.items }
     requires end { IsLineOf desk.now.ports end }

@@ -1,4 +1,4 @@
-//! Scripts in which an arrow and the reply follow each call.
+//! Scripts in which each call is followed by an arrow and the reply.
 use game_commands::answer_script;
 use game_core::{Countdown, Game};
 use ground_rules::load;
@@ -32,7 +32,7 @@ fn read_script(alloc: Global, text: &str) -> Result<Script, AllocError> {
     Ok(Script { calls, replies })
 }
 
-/// Whether a desk of this game gives the reply of each call, and then these records.
+/// Whether a desk of this game gives the reply to each call, and then these records.
 pub fn is_played<G: Game + Drop>(
     alloc: Global,
     game: G,
@@ -47,7 +47,7 @@ pub fn is_played<G: Game + Drop>(
     Ok(answers.text.as_slice() == replies.as_slice())
 }
 
-/// Whether a desk of Countdown with a heap of this size gives the reply of each call, and then these records.
+/// Whether a desk of Countdown with a heap of this size gives the reply to each call, and then these records.
 pub fn is_counted_down(alloc: Global, heap: u8, text: &str, records: &str) -> Result<bool, Fail> {
     let game = Countdown::new(heap).ok_or("no such game")?;
     Ok(is_played(alloc, game, text, records)?)

@@ -110,7 +110,7 @@ const NOT_STARTED_RECORD: &str =
     r#"{"cause":"asked","endMarks":[null,null],"errors":[],"goalValues":[],"matchId":"m","moves":[],"phase":"aborting","playClock":1,"players":["ann","bob"],"roles":["red","blue"],"startClock":1,"startMarks":[null,null],"states":[["(heap 3)","(turn red)"]],"strikes":0,"version":2}
 "#;
 
-/// Matches that cannot be opened, each for its first reason, with a heap of three.
+/// Matches that cannot be opened, each for the first reason that applies, with a heap of three.
 const NOT_OPENED: &str = "open m 0 1 1 ann bob -> opened
 open m 0 1 1 ann -> refused idused
 open m! 9 0 0 -> refused badid

@@ -1,9 +1,9 @@
-//! Matches in which replaced moves in a row retire a role.
+//! Matches in which a role is retired after replaced moves in a row.
 use crate::holding::holds;
 use crate::script::is_counted_down;
 use std::test::Fail;
 
-/// Red is retired after two turns, and blue later, with a heap of ten.
+/// Red is retired after two turns, and blue later. The heap is ten.
 const RETIRED: &str = "strict m 0 1 1 2 ann bob -> opened
 submit m 0 0 READY -> taken
 submit m 1 0 READY -> taken
@@ -26,7 +26,7 @@ pub const RETIRED_RECORD: &str =
     r#"{"cause":"allretired","endMarks":[null,null],"errors":[["TO",""],["IL (take 1)",""],["RT",""],["RT","TO"],["RT","CE"]],"goalValues":[],"matchId":"m","moves":[["(take 1)","noop"],["noop","(take 1)"],["(take 1)","noop"],["noop","(take 1)"],["(take 1)","noop"]],"phase":"aborting","playClock":1,"players":["ann","bob"],"roles":["red","blue"],"startClock":1,"startMarks":["",""],"states":[["(heap 10)","(turn red)"],["(heap 9)","(turn blue)"],["(heap 8)","(turn red)"],["(heap 7)","(turn blue)"],["(heap 6)","(turn red)"],["(heap 5)","(turn blue)"]],"strikes":2,"version":2}
 "#;
 
-/// Both are retired in the turn that ends the game, with a heap of one.
+/// Both roles are retired in the turn that ends the game. The heap is one.
 const RETIRED_AT_THE_END: &str = "strict m 0 1 1 1 ann bob -> opened
 submit m 0 0 READY -> taken
 submit m 1 0 READY -> taken
@@ -39,7 +39,7 @@ const RETIRED_AT_THE_END_RECORD: &str =
     r#"{"cause":null,"endMarks":[null,null],"errors":[["TO","TO"]],"goalValues":[100,0],"matchId":"m","moves":[["(take 1)","noop"]],"phase":"stopping","playClock":1,"players":["ann","bob"],"roles":["red","blue"],"startClock":1,"startMarks":["",""],"states":[["(heap 1)","(turn red)"],["(heap 0)","(turn blue)"]],"strikes":1,"version":2}
 "#;
 
-/// Two replaced moves that are not in a row retire no role, with a heap of ten.
+/// Two replaced moves that are not in a row retire no role. The heap is ten.
 const NOT_IN_A_ROW: &str = "strict m 0 1 1 2 ann bob -> opened
 submit m 0 0 READY -> taken
 submit m 1 0 READY -> taken
@@ -56,7 +56,7 @@ const NOT_IN_A_ROW_RECORD: &str =
     r#"{"cause":null,"endMarks":[null,null],"errors":[["TO",""],["",""],["TO",""]],"goalValues":[],"matchId":"m","moves":[["(take 1)","noop"],["noop","(take 1)"],["(take 1)","noop"]],"phase":"playing","playClock":1,"players":["ann","bob"],"roles":["red","blue"],"startClock":1,"startMarks":["",""],"states":[["(heap 10)","(turn red)"],["(heap 9)","(turn blue)"],["(heap 8)","(turn red)"],["(heap 7)","(turn blue)"]],"strikes":2,"version":2}
 "#;
 
-/// Too many strikes are refused only if the clocks are good, with a heap of three.
+/// Too many strikes are refused only if the clocks are valid. The heap is three.
 const TOO_MANY: &str = "strict m 0 0 1 256 ann bob -> refused badclock
 strict m 0 1 1 256 ann bob -> refused badstrikes
 strict m 0 1 1 255 ann bob -> opened

@@ -8,7 +8,7 @@ use Rattle.game_commands.specs.Commands.{DeskFails}
 use Rattle.game_commands.specs.Verdicts.{verdict_lines}
 use Rattle.game_commands.proofs.commands.perform.Goals as goal
 
--- memory ran out before anything was read
+-- memory ran out before the command read anything
 not_begun : {G S M R W : Type 0} (remaining : R → Option (List ℕ)) (contents : W → Option (List ℕ)) (is_interactive : Bool) (laws : G → Rules S M) (games : List G) (reader : Counting R) (writer : Counting W)
     → DeskFails remaining contents is_interactive laws games Memory [] reader reader writer writer
 not_begun remaining contents true laws games reader writer = inl ([], [], (λ more. refl), (refl, (Appends-nil _, refl)))

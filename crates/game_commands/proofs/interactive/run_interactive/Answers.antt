@@ -10,7 +10,7 @@ use Rattle.game_commands.specs.Interactive.{StopsAnswering, StopsWriting, Writes
 use Rattle.game_commands.specs.Script.{after_lines, answer_lines, desk_after, records}
 use Rattle.game_commands.proofs.interactive.run_interactive.Goals as goal
 
--- the text after the written one is not written whole
+-- the text after the written text is not written completely
 stops_after : {W : Type 0} (contents : W → Option (List ℕ)) (before more : List ℕ) (fault : Fault) (writer mid writer' : Counting W)
     → Writes contents before writer mid → StopsWriting contents [] more fault mid writer' → StopsWriting contents before (before ++ more) fault writer writer'
 stops_after contents before more fault writer mid writer' writes (inl (short, kept)) =
