@@ -6,7 +6,8 @@ use match_book::{ILLEGAL_PREFIX, Match, place_of};
 use match_log::Shown;
 use std::alloc::{AllocError, Global};
 
-/// The largest number of bytes in a list of legal moves. Two dots replace the remaining moves.
+/// The largest number of bytes of an explanation. If not all legal moves fit, two dots, which do not count, replace the
+/// others.
 const TOLD: usize = 200;
 
 /// Whether a move with this text is legal for the role in the state.
