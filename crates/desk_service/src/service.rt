@@ -74,7 +74,7 @@ where
         let ending = converse(serving, line, &mut reader, &mut writer);
         if ending.is_stopped() {
             let _ = around.rt.eprintln(ending.words());
-            // If the service closed the connection while the client sends, the system could drop the last row.
+            // If the service closed the connection while the client was sending, the system could drop the last row.
             let _ = stream.set_read_timeout(Some(Duration::from_secs(PATIENCE)));
             let _ = stream.shutdown(Shutdown::Write);
             drop_rest(around.rt, &mut reader);

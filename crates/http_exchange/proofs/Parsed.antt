@@ -1,4 +1,4 @@
--- From the parser's result for the front of the bytes to the meaning of the bytes as a head.
+-- From the parser's result for the front of the bytes to what the bytes say about the head.
 use Rattle.std.proofs.Common.{◌≡◌, ◌≢◌, ℕ, true, false, ◌<◌, ◌≤◌, Bool, cond, List, length, map, take, drop, Some, None, refl, sym, ap, subst, ◌∙◌, arith, inl, inr, length-take}
 use Rattle.std.specs.Prelude.{◌==◌, not}
 use Rattle.std.proofs.lemmas.Bool.Decides.{nat_tests}

@@ -44,7 +44,7 @@ TakesNone kind remaining old new fault =
     (given : List ℕ) × (ended : Bool) × Gives (remaining old.stream) (remaining new.stream) given ended
     × ReadStops kind fault given ended old new
 
--- The bytes from the stream are refused with this error. `received` follows from the meaning of the bytes as a head, so a status in
+-- The bytes from the stream are refused with this error. `received` follows from what the bytes say about the head, so a status in
 -- `received` is exactly the status of the head.
 abbrev pub TellsRefusal : {S : Type 0} → HttpKind → (S → Option (List ℕ)) → Counting S → Counting S → WireFault → Received → Type 0
 TellsRefusal kind remaining old new fault received =

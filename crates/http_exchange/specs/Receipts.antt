@@ -15,7 +15,7 @@ abbrev pub body_receipt : Option ℕ → ℕ → Received
 body_receipt (Some n) come = receipts.Body (min n come) n
 body_receipt None come = receipts.OpenBody come
 
--- how much of a reply came, given the meaning of its bytes as a head and the number of bytes
+-- how much of a reply came, given what its bytes say about the head, and how many bytes there are
 abbrev pub receipt : Head → ℕ → Received
 receipt heads.Unfinished have = head_receipt have
 receipt (heads.Whole frame) have = body_receipt frame.length (have - frame.start)

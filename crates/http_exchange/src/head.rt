@@ -97,7 +97,7 @@ fn max_body(kind: HttpKind) -> usize
     }
 }
 
-/// The meaning of the fields of a head of this size for the body.
+/// What the fields of a head of this size say about the body.
 fn framed(kind: HttpKind, size: usize, buf: &[u8], headers: &[HeaderSpan]) -> Head
     requires { All (IsHeaderWithin (length buf.now)) headers.now }
     ensures { result ≡ framed_by kind size (length_fault (map (header_bytes buf.now) headers.now)) (body_length (map (header_bytes buf.now) headers.now)) }

@@ -7,7 +7,7 @@ use crate::head::{Head, HeadPart, MAX_REPLY_BODY};
 use crate::wire_fault::FrameFault;
 use std::fmt;
 
-/// How far an exchange got that brought no body.
+/// How far an exchange got, if it brought no body.
 #[derive(Clone, Copy, PartialEq, Eq)]
 pub enum Received {
     /// There was no connection for the exchange.
@@ -94,7 +94,7 @@ impl fmt::Debug for Received {
     }
 }
 
-/// How much of a reply came, given the meaning of its bytes as a head and the number of bytes.
+/// How much of a reply came, given what its bytes say about the head, and how many bytes there are.
 pub(crate) fn received_of(head: Head, have: usize) -> Received
     requires { StartsWithin have head }
     ensures { result ≡ receipt head have }

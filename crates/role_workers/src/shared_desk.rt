@@ -153,7 +153,7 @@ impl<O: Object<Call = Call, Reply = Reply>, N: DeskBrand<O>> SharedDesk<O, N> {
     }
 
     /// Serves rounds until `workers` workers have ended. Workers serve their own calls, so this thread sleeps most of
-    /// the time. A worker wakes it when the worker ends.
+    /// the time. When a worker ends, it wakes this thread.
     pub fn serve_until<R: Wait>(&self, rt: &R, workers: u64) {
         let mut pause = Pause::new(&self.bell, Duration::from_millis(LONGEST_SLEEP));
         for _ in rt.forever() {
