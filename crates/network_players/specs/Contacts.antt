@@ -5,7 +5,7 @@ use Rattle.std.specs.declared.io.ErrorKind.TheVariants.{WouldBlock, TimedOut}
 use Rattle.desk_calls.specs.declared.answer.Answer.{Answer}
 use Rattle.desk_calls.specs.declared.answer.Answer.TheVariants.{Text, Silent, Broken}
 use Rattle.http_exchange.specs.declared.received.Received.{Received}
-use Rattle.http_exchange.specs.declared.received.Received.TheVariants.{Unconnected, Unsent, Status}
+use Rattle.http_exchange.specs.declared.received.Received.TheVariants.{Nothing, Unconnected, Unsent, Status}
 use Rattle.http_exchange.specs.declared.wire_fault.WireFault.{WireFault}
 use Rattle.http_exchange.specs.declared.wire_fault.WireFault.TheVariants as exchange_faults
 use Rattle.match_plans.specs.declared.shortages.Shortage.{Shortage}
@@ -94,11 +94,13 @@ abbrev pub longest_pause : ContactFault → ℕ
 longest_pause faults.NoAddress = 500000000
 longest_pause fault = 50000000
 
--- Whether the player closed the connection before it had the whole request, and the program had not been running. The player is not to
--- blame: it may have given up waiting for the rest.
-abbrev pub is_cut_by_stop : Bool → ContactFault → Bool
-is_cut_by_stop true (faults.Exchange exchange_faults.WriteFault Unsent) = true
-is_cut_by_stop has_stalled fault = false
+-- Whether the player may have closed the connection because the program had been stopped (`has_stopped`): before it had the whole request,
+-- or, when the message is sent for the first time, before it sent an answer.
+abbrev pub is_cut_by_stop : Bool → Bool → ContactFault → Bool
+is_cut_by_stop true is_first (faults.Exchange exchange_faults.WriteFault Unsent) = true
+is_cut_by_stop true is_first (faults.Exchange exchange_faults.CutShort Nothing) = is_first
+is_cut_by_stop true is_first (faults.Exchange (exchange_faults.ReadFault kind) Nothing) = is_first
+is_cut_by_stop has_stopped is_first fault = false
 
 abbrev pub exchange_fault : Received → WireFault → ContactFault
 exchange_fault received exchange_faults.Memory = faults.Shortage Memory

@@ -1,6 +1,7 @@
 -- How the time of a message is counted, and how the reads of the message use it.
-use Rattle.std.specs.Prelude.{◌≡◌, ◌⊎◌, ◌+◌, ◌-◌, ◌/◌, ◌<◌, ◌≤◌, ◌^◌, ◌==◌, if◌then◌else◌, ℕ, max, min}
+use Rattle.std.specs.Prelude.{◌≡◌, ◌⊎◌, ◌+◌, ◌-◌, ◌/◌, ◌<◌, ◌≤◌, ◌^◌, ◌==◌, if◌then◌else◌, ℕ, IsSomeAnd, max, min}
 use Rattle.std.specs.Duration.{as_nanos, max_nanos}
+use Rattle.network_players.specs.declared.deadline.Deadline.{Deadline}
 use Rattle.network_players.specs.declared.deadline.Step.{Step}
 use Rattle.network_players.specs.declared.deadline.Step.TheVariants.{Waits, Sleeps, Looks, Ends}
 
@@ -30,3 +31,7 @@ share left among = max 1000000 (left / max 1 among)
 -- the time that is left.
 abbrev pub try_limit : ℕ → ℕ → ℕ → ℕ
 try_limit left silent untried = if silent == 0 then min (first_limit left) (share left (min (2 ^ 32 - 1) (untried + 1))) else share left silent
+
+-- Whether the program was stopped, and continued at most a second before, counted in the time of the message.
+abbrev pub HasStopped : Deadline → Type 0
+HasStopped deadline = IsSomeAnd (deadline.stopped_at) (λ at. as_nanos at - as_nanos (deadline.left) ≤ 1000000000)

@@ -85,8 +85,8 @@ impl<H: Net> Net for Beside<'_, H> {
 }
 
 impl<H: Routes> Routes for Beside<'_, H> {
-    fn lack_of_route(&self, address: &SocketAddr) -> Option<Shortage> {
-        self.rt.lack_of_route(address)
+    fn source(&self, address: &SocketAddr) -> io::Result<SocketAddr> {
+        self.rt.source(address)
     }
 
     fn probe(&self, address: &SocketAddr) -> io::Result<()> {

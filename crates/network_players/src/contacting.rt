@@ -244,14 +244,17 @@ pub(crate) fn fault_at_refusal(fault: ContactFault, refusal: Option<Shortage>) -
     }
 }
 
-/// The error of a message that failed with `fault`. If the message failed in the network, and this computer cannot send to the player now,
-/// the error says what this computer lacks.
-fn blamed<N: Routes>(net: &N, addresses: &[SocketAddr], fault: ContactFault) -> ContactFault {
-    if is_of_network(fault) {
-        fault_at_refusal(fault, refusal_of_all(net, addresses))
-    } else {
-        fault
+/// The error of a message that failed with `fault`. If the message failed in the network, and this computer can no longer send to the player
+/// as before or not at all, the error says what this computer lacks.
+fn blamed<N: Routes>(net: &N, lookup: &Lookup, fault: ContactFault) -> ContactFault {
+    if !is_of_network(fault) {
+        return fault;
     }
+    let lack = match lookup.lack_of_home(net, 0) {
+        Some(shortage) => Some(shortage),
+        None => refusal_of_all(net, lookup.addresses()),
+    };
+    fault_at_refusal(fault, lack)
 }
 
 /// The error of all addresses so far, from the error of the earlier addresses and the error of the last one. A lack of ports or of a network
@@ -293,30 +296,37 @@ fn outcome_of(
 }
 
 /// Connects to an address within the limit. A connection that the player closed while the program was not running counts as
-/// no connection.
+/// no connection. A stop costs nothing if the attempt succeeds, and otherwise no more than the time of a first attempt.
 fn connect_to<N: Routes + Clock>(
     net: &N,
     address: &SocketAddr,
     limit: Duration,
     deadline: &mut Deadline,
 ) -> Result<N::Stream, ContactFault> {
-    let (left, had_stalled) = (deadline.left, deadline.has_stalled);
-    deadline.has_stalled = false;
+    let (left, before) = (deadline.left, deadline.stopped_at);
+    deadline.stopped_at = None;
     let tried = TcpStream::connect_timeout(net, address, limit);
     // The next step finds out whether time is left.
     let _ = deadline.after(net, limit);
-    if deadline.has_stalled {
-        // A stop costs no more than in a first try.
-        deadline.left = deadline.left.max(left.saturating_sub(first_limit(left)));
-    }
-    deadline.has_stalled = deadline.has_stalled || had_stalled;
-    match tried {
-        Ok(stream) if deadline.has_stalled && is_gone(net, &stream) => {
+    let is_stopped = deadline.stopped_at.is_some();
+    let connected = match tried {
+        Ok(stream) if (is_stopped || before.is_some()) && is_gone(net, &stream) => {
             Err(ContactFault::NoConnection)
         }
         Ok(stream) => Ok(stream),
         Err(error) => Err(fault_of(net, address, &error)),
+    };
+    if !is_stopped {
+        deadline.stopped_at = before;
+        return connected;
     }
+    let cost = match &connected {
+        Ok(_) => Duration::ZERO,
+        Err(_) => first_limit(left),
+    };
+    deadline.left = deadline.left.max(left.saturating_sub(cost));
+    deadline.stopped_at = Some(deadline.left);
+    connected
 }
 
 /// Tries each of the addresses once, until one accepts a connection. An address that has accepted a connection before comes
@@ -348,13 +358,16 @@ fn try_each<N: Routes + Clock>(
             count - place
         };
         let limit = try_limit(left, before.saturating_sub(now), untried);
-        match connect_to(net, &address, limit, deadline) {
+        let last = match connect_to(net, &address, limit, deadline) {
             Ok(stream) => {
-                lookup.prefer(place);
+                lookup.prefer(net, place);
                 return Ok(stream);
             }
-            Err(ContactFault::Late(_)) => now = now.saturating_add(1),
-            Err(last) => fault = fault_so_far(fault, last),
+            Err(last) => fault_at_refusal(last, lookup.lack_of_home(net, place)),
+        };
+        match last {
+            ContactFault::Late(_) => now = now.saturating_add(1),
+            last => fault = fault_so_far(fault, last),
         }
         if lookup.has_preferred && !matches!(fault, ContactFault::Shortage(_)) {
             break;
@@ -480,7 +493,7 @@ fn connect<N: Resolves + Clock>(
     let mut before = LATE;
     let mut limit = Duration::from_millis(PAUSE_MILLIS);
     for _ in 0..MAX_CONNECTS {
-        deadline.has_stalled = false;
+        deadline.stopped_at = None;
         let left = deadline.left;
         let connected = match lookup.look_up(net, alloc, player, deadline) {
             Ok(()) => connect_once(net, lookup, deadline),
@@ -490,7 +503,7 @@ fn connect<N: Resolves + Clock>(
             Ok(stream) => return Ok(stream),
             Err(fault) => fault,
         };
-        if deadline.has_stalled {
+        if deadline.stopped_at.is_some() {
             patient_to = patience_from(deadline.left);
         }
         match after_try(fault, before, deadline.left > patient_to) {
@@ -532,16 +545,20 @@ fn exchange_over<N: Net + Clock>(
     outcome_of(ended.halt, received, exchanged)
 }
 
-/// Whether the player closed the connection before it had the whole request, and the program had not been running: the player may have given
-/// up waiting for the rest.
-fn is_cut_by_stop(fault: ContactFault, has_stalled: bool) -> bool
-    ensures { result ≡ is_cut_by_stop has_stalled fault }
+/// Whether the player may have closed the connection because the program had been stopped (`has_stopped`): it gave up waiting for the request
+/// or for the rest of it. If the request was fully written meanwhile, this counts only when the message is sent for the first time.
+fn is_cut_by_stop(fault: ContactFault, has_stopped: bool, is_first: bool) -> bool
+    ensures { result ≡ is_cut_by_stop has_stopped is_first fault }
 {
-    has_stalled
-        && matches!(
-            fault,
-            ContactFault::Exchange(WireFault::WriteFault, Received::Unsent)
-        )
+    has_stopped
+        && match fault {
+            ContactFault::Exchange(WireFault::WriteFault, Received::Unsent) => true,
+            ContactFault::Exchange(
+                WireFault::CutShort | WireFault::ReadFault(_),
+                Received::Nothing,
+            ) => is_first,
+            _ => false,
+        }
 }
 
 /// Sends a player a message and returns the body of its answer. The lookup of the host, connecting, writing and reading
@@ -558,15 +575,17 @@ pub fn contact_found<N: Resolves + Clock>(
 ) -> Result<Text, ContactFault> {
     let mut deadline = Deadline::within(net, seconds)?;
     let whole = deadline.left;
-    for _ in 0..MAX_SENDS {
+    for sent in 0..MAX_SENDS {
         let reached = match connect(net, alloc, player, lookup, &mut deadline) {
             Ok(stream) => exchange_over(net, alloc, player, &mut deadline, stream, message),
             Err(fault) => Err(fault),
         };
         match reached {
             Ok(text) => return Ok(text),
-            Err(fault) if is_cut_by_stop(fault, deadline.has_stalled) => deadline.left = whole,
-            Err(fault) => return Err(blamed(net, lookup.addresses(), fault)),
+            Err(fault) if is_cut_by_stop(fault, deadline.has_stopped(), sent == 0) => {
+                deadline.left = whole;
+            }
+            Err(fault) => return Err(blamed(net, lookup, fault)),
         }
         let pause_limit = Duration::from_millis(PAUSE_MILLIS);
         pause(net, &mut deadline, STOPPED, pause_limit)?;

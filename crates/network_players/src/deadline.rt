@@ -5,7 +5,7 @@ ghost use Rattle.std.specs.Io.{ReadsAtMost, WritesAtMost};
 ghost use Rattle.std.specs.Io.KnownBytes.{ReadConsumes, WriteAppends};
 ghost use Rattle.std.specs.IoError.{error_kind, raw_os_error};
 ghost use Rattle.match_plans.specs.declared.shortages.Shortage.TheVariants.{Clock};
-ghost use Rattle.network_players.specs.Deadlines.{IsCharged, IsStep, first_limit, share, try_limit};
+ghost use Rattle.network_players.specs.Deadlines.{HasStopped, IsCharged, IsStep, first_limit, share, try_limit};
 ghost use Rattle.network_players.specs.Shortages.{IsTimeOut, failed_halt};
 ghost use Rattle.http_exchange.specs.declared.received.Received.TheVariants.{Unconnected};
 ghost use Rattle.network_players.specs.declared.contacting.ContactFault.TheVariants as faults;
@@ -32,6 +32,9 @@ const LOOKS: u32 = 64;
 
 /// The time limit of a read whose bytes are there, in milliseconds.
 const AT_ONCE_MILLIS: u64 = 1;
+
+/// If a player closes the connection while it has the request only in part, a stop that ended at most this many seconds before may be the reason.
+const RECENT_SECONDS: u64 = 1;
 
 /// The time that a step costs a message. If the program was not running for a part of the step, the step costs only the requested time.
 fn charged(asked: Duration, passed: Duration) -> Duration
@@ -94,8 +97,9 @@ pub struct Deadline {
     /// When the clock was last read. `left` is the time that was left then.
     pub(crate) seen: Instant,
     pub(crate) left: Duration,
-    /// Whether there was a time since the beginning of the last try to connect in which the program was not running.
-    pub(crate) has_stalled: bool,
+    /// The time that was left when the program last continued after a stop. `None` if it was not stopped since the beginning of the last
+    /// attempt to connect.
+    pub(crate) stopped_at: Option<Duration>,
     /// How many reads may still take the bytes that are there when the time is over.
     looks: u32,
 }
@@ -110,22 +114,33 @@ impl Deadline {
             Ok(seen) => Ok(Deadline {
                 seen,
                 left: Duration::from_secs(u64::from(seconds)),
-                has_stalled: false,
+                stopped_at: None,
                 looks: LOOKS,
             }),
             Err(_) => Err(NO_CLOCK),
         }
     }
 
+    /// Whether the program was stopped so recently that the player may have given up because of it.
+    pub(crate) fn has_stopped(&self) -> bool
+        ensures { IsTrue result ↔ HasStopped self.now }
+    {
+        match self.stopped_at {
+            Some(at) => at.saturating_sub(self.left) <= Duration::from_secs(RECENT_SECONDS),
+            None => false,
+        }
+    }
+
     /// Subtracts the cost of a step that took the time `passed`. If it costs less than that, the program was not running.
     fn charge(&mut self, charged: Duration, passed: Duration)
         ensures left { as_nanos self.new.left ≡ as_nanos self.old.left - as_nanos charged }
-        ensures stalled { IsTrue self.new.has_stalled ↔ (IsTrue self.old.has_stalled) ⊎ (as_nanos charged < as_nanos passed) }
+        ensures stopped { as_nanos charged < as_nanos passed → self.new.stopped_at ≡ Some self.new.left }
+        ensures running { as_nanos passed ≤ as_nanos charged → self.new.stopped_at ≡ self.old.stopped_at }
         ensures looks { self.new.looks ≡ self.old.looks }
     {
         self.left = self.left.saturating_sub(charged);
         if !passed.saturating_sub(charged).is_zero() {
-            self.has_stalled = true;
+            self.stopped_at = Some(self.left);
         }
     }
 
@@ -341,7 +356,11 @@ impl<C: Clock, S: Read + OpenStream> Read for TimedStream<'_, C, S> {
         ensures counts { OnOk result (self.new.halt ≡ None) }
         ensures late { IfErr result (λ error. IsTimeOut (error_kind error) (raw_os_error error) → IsSome self.new.halt) }
     {
-        match wait_for_bytes(self.clock, &self.stream, &mut self.deadline) {
+        let stopped_at = self.deadline.stopped_at;
+        let waited = wait_for_bytes(self.clock, &self.stream, &mut self.deadline);
+        // Only a stop before the request was written can make a player give up.
+        self.deadline.stopped_at = stopped_at;
+        match waited {
             Ok(None) => {}
             Ok(Some(halt)) => return Err(self.halted(halt)),
             Err(error) => return Err(self.failed(error)),
@@ -367,12 +386,19 @@ impl<C: Clock, S: Write + OpenStream> TimedStream<'_, C, S> {
         ensures bound { WritesAtMost result buf.now }
         ensures bytes { WriteAppends (S.contents self.old.stream) (S.contents self.new.stream) result buf.now }
     {
+        let before = self.deadline.stopped_at;
+        self.deadline.stopped_at = None;
         let taken = match self.stream.set_write_timeout(Some(limit)) {
             Ok(()) => self.stream.write(buf),
             Err(error) => Err(error),
         };
         // The next step finds out whether time is left.
         let _ = self.deadline.after(self.clock, limit);
+        // A player that takes nothing while the program runs is not waiting for the rest of the request.
+        let is_waiting = !matches!(&taken, Err(error) if is_time_out(error));
+        if self.deadline.stopped_at.is_none() && is_waiting {
+            self.deadline.stopped_at = before;
+        }
         taken
     }
 }
@@ -390,7 +416,7 @@ impl<C: Clock, S: Write + OpenStream> Write for TimedStream<'_, C, S> {
             Ok(left) => left,
             Err(halt) => return Err(self.halted(halt)),
         };
-        if self.deadline.has_stalled && is_gone(self.clock, &self.stream) {
+        if self.deadline.stopped_at.is_some() && is_gone(self.clock, &self.stream) {
             return Err(self.failed(io::Error::from(ErrorKind::BrokenPipe)));
         }
         match self.write_within(buf, first_limit(left)) {

@@ -7,7 +7,7 @@ ghost use Rattle.network_players.specs.declared.contacting.ContactFault.TheVaria
 use crate::contacting::{ContactFault, fault_at_refusal};
 use crate::deadline::{Deadline, LATE, doubled};
 use crate::host_addresses::{addresses, is_address};
-use crate::routes::{Routes, lack_of_network, lack_since};
+use crate::routes::{Routes, lack_of_home, lack_of_network, lack_since};
 use desk_calls::MAX_CLOCK;
 use match_plans::{PlayerAddress, Shortage};
 use std::alloc::{AllocError, Global};
@@ -121,6 +121,8 @@ pub struct Lookup {
     found: Option<Vec<SocketAddr>>,
     /// Whether the first address is first because it has accepted a connection.
     pub(crate) has_preferred: bool,
+    /// The address of this computer from which it last reached the first address, if this is known.
+    home: Option<SocketAddr>,
     /// The lookup that has not ended yet.
     query: Option<Arc<HostQuery>>,
     ghost some: { ForSome found (λ found. 0 < length found.items) },
@@ -223,6 +225,7 @@ impl Lookup {
         Lookup {
             found: None,
             has_preferred: false,
+            home: None,
             query: None,
         }
     }
@@ -280,12 +283,23 @@ impl Lookup {
     }
 
     /// Moves the address with this index to the front, because it has accepted a connection.
-    pub fn prefer(&mut self, place: usize) {
-        if let Some(found) = &mut self.found {
-            if place < found.len() {
-                found.swap(0, place);
-                self.has_preferred = true;
-            }
+    pub fn prefer<N: Routes>(&mut self, net: &N, place: usize) {
+        let Some(found) = &mut self.found else {
+            return;
+        };
+        if place < found.len() {
+            found.swap(0, place);
+            self.has_preferred = true;
+            self.home = net.source(&found[0]).ok();
+        }
+    }
+
+    /// What this computer lacks if the address with this index has accepted a connection before, and this computer has lost the address or
+    /// the route by which it reached it.
+    pub(crate) fn lack_of_home<N: Routes>(&self, net: &N, place: usize) -> Option<Shortage> {
+        match (place, &self.home, self.addresses().first()) {
+            (0, Some(home), Some(address)) => lack_of_home(net, home, address),
+            _ => None,
         }
     }
 

@@ -11,6 +11,9 @@ use match_plans::Shortage;
 use std::io;
 use std::net::{IpAddr, Ipv4Addr, Ipv6Addr, Net, SocketAddr, UdpSocket};
 
+/// `ENETUNREACH` of Linux: no route leads to an address.
+const UNREACHABLE: i32 = 101;
+
 /// The address of this computer from which it reaches others of the same family.
 pub(crate) fn any_address(address: &SocketAddr) -> SocketAddr
     ensures { is_ipv4 (socket_ip result) ≡ is_ipv4 (socket_ip address.now) }
@@ -46,8 +49,9 @@ fn route_shortage(error: &io::Error) -> Shortage
 
 /// A network with known routes.
 pub trait Routes: Net {
-    /// What this computer lacks if it has no route to the address. Sends nothing.
-    fn lack_of_route(&self, address: &SocketAddr) -> Option<Shortage>;
+    /// The address of this computer from which packets to the given address travel, with the port 0. The error means that there is no route,
+    /// or no socket to find it out. Sends nothing.
+    fn source(&self, address: &SocketAddr) -> io::Result<SocketAddr>;
 
     /// Tries to send an empty datagram to the address. Only this computer's interfaces, routes and firewall can make this fail: the socket is
     /// new, so it cannot have received a reply.
@@ -56,15 +60,12 @@ pub trait Routes: Net {
 
 /// The network of a runtime.
 impl<R: Net + Copy + Send + 'static> Routes for R {
-    fn lack_of_route(&self, address: &SocketAddr) -> Option<Shortage> {
-        let joined = match UdpSocket::bind(self, any_address(address)) {
-            Ok(socket) => socket.connect(*address),
-            Err(error) => Err(error),
-        };
-        match joined {
-            Ok(()) => None,
-            Err(error) => Some(route_shortage(&error)),
-        }
+    fn source(&self, address: &SocketAddr) -> io::Result<SocketAddr> {
+        let socket = UdpSocket::bind(self, any_address(address))?;
+        socket.connect(*address)?;
+        let mut source = socket.local_addr()?;
+        source.set_port(0);
+        Ok(source)
     }
 
     fn probe(&self, address: &SocketAddr) -> io::Result<()> {
@@ -81,10 +82,40 @@ impl<R: Net + Copy + Send + 'static> Routes for R {
     }
 }
 
+/// What this computer lacks if it has no route to the address.
+fn lack_of_route<N: Routes>(net: &N, address: &SocketAddr) -> Option<Shortage> {
+    match net.source(address) {
+        Ok(_) => None,
+        Err(error) => Some(route_shortage(&error)),
+    }
+}
+
+/// What this computer lacks if it no longer sends to the address from `home`, its own address from which it sent before. A router can change
+/// the routes of IPv6, but it cannot remove an address of this computer within two hours, so for IPv6 only a lost address counts. A route that
+/// refuses only this address does not count.
+pub(crate) fn lack_of_home<N: Routes>(
+    net: &N,
+    home: &SocketAddr,
+    address: &SocketAddr,
+) -> Option<Shortage> {
+    match net.source(address) {
+        Ok(source) if source.ip() == home.ip() => return None,
+        Err(error) if error.raw_os_error() != Some(UNREACHABLE) => return None,
+        _ => {}
+    }
+    if home.ip().to_canonical().is_ipv4() {
+        return Some(Shortage::Network);
+    }
+    match UdpSocket::bind(net, *home) {
+        Ok(_) => None,
+        Err(error) => Some(route_shortage(&error)),
+    }
+}
+
 /// What this computer lacks if it has a default route neither for IPv4 nor for IPv6.
 pub(crate) fn lack_of_network<N: Routes>(net: &N) -> Option<Shortage> {
-    net.lack_of_route(&outside(true))?;
-    net.lack_of_route(&outside(false))
+    lack_of_route(net, &outside(true))?;
+    lack_of_route(net, &outside(false))
 }
 
 /// What this computer lacked before or lacks now, if it had or has no network.
@@ -106,6 +137,6 @@ fn is_without_route(to_address: Option<Shortage>, by_default: Option<Shortage>) 
 
 /// Whether this computer has a default route of IPv4 or IPv6, but no route to the address.
 pub(crate) fn lacks_route<N: Routes>(net: &N, address: &SocketAddr) -> bool {
-    let to_address = net.lack_of_route(address);
+    let to_address = lack_of_route(net, address);
     to_address.is_some() && is_without_route(to_address, lack_of_network(net))
 }
