@@ -241,16 +241,17 @@ where
         Ok(listener) => listener,
         Err(error) => return Err(not_listening(errors, plan.address, error)),
     };
-    let connections = match Connections::new(alloc, &listener, plan.lines) {
-        Ok(connections) => connections,
-        Err(error) => return Err(not_listening(errors, plan.address, error)),
+    let done = match Connections::new(alloc, &listener, plan.lines) {
+        Ok(connections) => {
+            let around = ServiceSurroundings {
+                rt,
+                alloc,
+                connections: &connections,
+            };
+            serve_at(&around, plan, games, reader, writer, errors)
+        }
+        Err(error) => Err(not_listening(errors, plan.address, error)),
     };
-    let around = ServiceSurroundings {
-        rt,
-        alloc,
-        connections: &connections,
-    };
-    let done = serve_at(&around, plan, games, reader, writer, errors);
     if let Some(path) = plan.address.strip_prefix("unix:") {
         let _ = fs::remove_file(rt, path);
     }

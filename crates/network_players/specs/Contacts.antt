@@ -31,7 +31,7 @@ contact_answer (Err (faults.Exchange fault received)) = answer_of (Err fault)
 contact_answer (Err (faults.Late received)) = Silent
 contact_answer (Err fault) = Broken
 
--- The error of a message: `fault` is the error of the last try, and `halt` is why no other try followed. If one of them says what the
+-- The error of a message: `fault` is the error of the last attempt, and `halt` is why no other attempt followed. If one of them says what the
 -- referee lacks, this is the error; otherwise it is `fault`.
 abbrev pub fault_at_end : ContactFault → ContactFault → ContactFault
 fault_at_end (faults.Shortage shortage) halt = faults.Shortage shortage
@@ -79,9 +79,9 @@ fault_so_far before (faults.Shortage Ports) = before
 fault_so_far before (faults.Shortage Network) = before
 fault_so_far before last = last
 
--- What follows a try to connect. If the referee lacked a resource, another try follows, even if the player has accepted no connection
--- for some seconds. If the player accepts no connection or its host has no address, and `is_patient` is true, another try follows. A try that had no time left does
--- not count, so the error is that of the earlier try.
+-- What follows an attempt to connect. If the referee lacked a resource, another attempt follows, even if the player has accepted no connection
+-- for some seconds. If the player accepts no connection or its host has no address, and `is_patient` is true, another attempt follows. An
+-- attempt that had no time left does not count, so the error is that of the earlier attempt.
 abbrev pub after_try : ContactFault → Bool → ContactFault → AfterTry
 after_try before is_patient (faults.Shortage shortage) = Waits
 after_try before is_patient faults.NoConnection = if is_patient then Tries else Ends faults.NoConnection
@@ -89,7 +89,7 @@ after_try before is_patient faults.NoAddress = if is_patient then Tries else End
 after_try before is_patient (faults.Late received) = Ends before
 after_try before is_patient fault = Ends fault
 
--- The longest pause after a try with this error, in nanoseconds. Only after a lookup that found no address do pauses grow, to half a second.
+-- The longest pause after an attempt with this error, in nanoseconds. Only after a lookup that found no address do pauses grow, to half a second.
 abbrev pub longest_pause : ContactFault → ℕ
 longest_pause faults.NoAddress = 500000000
 longest_pause fault = 50000000

@@ -19,15 +19,15 @@ IsStep left looks (Sleeps time) = (0 < left) × ((left ≤ 20000000) × (as_nano
 IsStep left looks Looks = (left ≡ 0) × (0 < looks)
 IsStep left looks Ends = (left ≡ 0) × (looks ≡ 0)
 
--- The time limit of a first try to connect, and of each try to write, in nanoseconds: a quarter of the time that is left, at most a second.
+-- The time limit of a first attempt to connect, and of each attempt to write, in nanoseconds: a quarter of the time that is left, at most a second.
 abbrev pub first_limit : ℕ → ℕ
 first_limit left = max 1000000 (min 1000000000 (left / 4))
 
 abbrev pub share : ℕ → ℕ → ℕ
 share left among = max 1000000 (left / max 1 among)
 
--- The time limit of a try to connect to an address, in nanoseconds. As long as addresses are tried for the first time, it is short: as for a
--- first try, and at most an equal share for each address that is left and for what follows. Then the addresses that did not answer share
+-- The time limit of an attempt to connect to an address, in nanoseconds. As long as addresses are tried for the first time, it is short: as for a
+-- first attempt, and at most an equal share for each address that is left and for what follows. Then the addresses that did not answer share
 -- the time that is left.
 abbrev pub try_limit : ℕ → ℕ → ℕ → ℕ
 try_limit left silent untried = if silent == 0 then min (first_limit left) (share left (min (2 ^ 32 - 1) (untried + 1))) else share left silent

@@ -80,29 +80,30 @@ pub trait Explains {
 /// The error number for a packet that this computer's firewall stops.
 const EPERM: i32 = 1;
 
-/// The number of seconds during which a connection that fails is tried again. A player that restarts in this time misses
+/// For this many seconds, the referee repeats an attempt to connect that fails. A player that restarts in this time misses
 /// nothing.
 const RETRY_SECONDS: u64 = 2;
 
-/// The first pause before another try to connect, in milliseconds. Only pauses after a lookup without an address grow.
+/// The first pause before another attempt to connect, in milliseconds. Only pauses after a lookup without an address grow.
 const PAUSE_MILLIS: u64 = 50;
 
 /// The longest pause after a lookup that found no address, in milliseconds. Longer pauses spare the name server.
 const LOOKUP_PAUSE_MILLIS: u64 = 500;
 
-/// The largest number of tries to connect for one message. With their pauses they take longer than any clock and a wait for the referee.
+/// The largest number of attempts to connect for one message. With their pauses, they take longer than any clock and any wait for a
+/// resource of the referee.
 const MAX_CONNECTS: u32 = 4_000_000;
 
 const _: () = prove!(MAX_CONNECTS as u64 * PAUSE_MILLIS > 2 * MAX_CLOCK as u64 * 1_000);
 
-/// How often a message is sent at most, if the player closes the connection each time because the program was not running.
+/// A message is sent at most this often, if the player closes the connection each time because the program was not running.
 const MAX_SENDS: u32 = 10;
 
 /// The error of a message that could not be sent again after the program had not been running.
 const STOPPED: ContactFault = ContactFault::Shortage(Shortage::Processor);
 
-/// The error of a message: `fault` is the error of the last try, and `halt` is why no other try followed. If one of the
-/// two says what the referee lacks, the result is this one, and otherwise `fault`.
+/// The error of a message: `fault` is the error of the last attempt, and `halt` is the reason why no further attempt followed. If one of
+/// the two names a resource that the referee lacks, the result is this one, and otherwise `fault`.
 fn fault_at_end(fault: ContactFault, halt: ContactFault) -> ContactFault
     ensures { result ≡ fault_at_end fault halt }
 {
@@ -113,8 +114,8 @@ fn fault_at_end(fault: ContactFault, halt: ContactFault) -> ContactFault
     }
 }
 
-/// The error of an address to which no connection was made. If the time is over, the error is `TimedOut` without a number. An error with a
-/// number comes from the system: `ETIMEDOUT` means that the system gave up at its own limit, so the address accepted no connection.
+/// The error of an address that accepted no connection. If the time is over, the system error is `TimedOut` without a number. A system error
+/// with a number comes from Linux: `ETIMEDOUT` means that Linux gave up at its own limit.
 fn address_fault(error: &io::Error) -> ContactFault
     ensures { result ≡ address_fault (error_kind error.now) (raw_os_error error.now) }
 {
@@ -127,8 +128,8 @@ fn address_fault(error: &io::Error) -> ContactFault
     }
 }
 
-/// Whether the address can belong to a single host. The system refuses connections to all other addresses, and then the
-/// address is at fault.
+/// Whether the address can belong to a single host. The system refuses connections to all other addresses, and such a refusal counts
+/// against the player.
 fn is_of_a_host(address: &SocketAddr) -> bool {
     let is_zoned = match address {
         SocketAddr::V4(_) => true,
@@ -147,14 +148,14 @@ fn is_forbidden(error: &io::Error) -> bool {
     error.raw_os_error() == Some(EPERM)
 }
 
-/// Sends the probe to an address outside of the computer's network, of the version of IP in which packets travel to the address.
+/// Sends the probe to an address outside the network of this computer, with the version of IP that packets to the address use.
 fn probe_outside<N: Routes>(net: &N, address: &SocketAddr) -> io::Result<()> {
     net.probe(&outside(address.ip().to_canonical().is_ipv4()))
 }
 
-/// Whether a refused probe with this error shows nothing about this computer's network, because only the address is the
+/// Whether a probe that was refused with this error shows nothing about this computer's network, because only the address is the
 /// cause, or because the firewall passes only connections. The owner of the player chooses the address, and the
-/// player's router can take away the address family.
+/// player's router can remove the routes of an address family.
 fn is_of_address<N: Routes>(net: &N, address: &SocketAddr, error: &io::Error) -> bool {
     match probe_outside(net, address) {
         Ok(()) => true,
@@ -191,7 +192,7 @@ fn refusal_of_all<N: Routes>(net: &N, addresses: &[SocketAddr]) -> Option<Shorta
 }
 
 /// The error of an address to which no connection was made. If this computer may have caused the error (`may_be_own`),
-/// `refusal` is what a probe found that it lacks.
+/// `refusal` is the resource that this computer lacks according to a probe.
 fn connect_fault(error: &io::Error, may_be_own: bool, refusal: Option<Shortage>) -> ContactFault
     ensures { result ≡ connect_fault (error_kind error.now) (raw_os_error error.now) may_be_own refusal }
 {
@@ -234,7 +235,7 @@ fn is_of_network(fault: ContactFault) -> bool
     )
 }
 
-/// The error of a message that failed in the network. The player is blamed only if this computer can send to the player.
+/// The error of a message that failed in the network. It counts against the player only if this computer can send to the player.
 pub(crate) fn fault_at_refusal(fault: ContactFault, refusal: Option<Shortage>) -> ContactFault
     ensures { result ≡ fault_at_refusal refusal fault }
 {
@@ -329,11 +330,10 @@ fn connect_to<N: Routes + Clock>(
     connected
 }
 
-/// Tries each of the addresses once, until one accepts a connection. An address that has accepted a connection before comes
-/// first, and the others are then tried only while this computer lacks a resource. Without this rule, if the player's host
-/// name also had the address of another player, the player could pass its message on to that player by refusing a
-/// connection. `silent` is the number of addresses that did not answer: on entry in the earlier tries, and on return in these. It is 0 if no more
-/// tries follow.
+/// Tries each of the addresses once, until one accepts a connection. If an address has accepted a connection before, it comes first, and this
+/// tries the others only while this computer lacks a resource. Without this rule, a player whose host name also has the address of another
+/// player could pass its message on to that player by refusing a connection. On entry, `silent` is the number of addresses that did not answer
+/// in earlier attempts; on return, in these attempts. It is 0 if no further attempts follow.
 fn try_each<N: Routes + Clock>(
     net: &N,
     lookup: &mut Lookup,
@@ -377,8 +377,8 @@ fn try_each<N: Routes + Clock>(
     Err(fault)
 }
 
-/// Connects to the first of the addresses that accepts a connection, within the time that is left. Addresses that did not
-/// answer are tried again, unless the referee lacked a resource for another one.
+/// Connects to the first of the addresses that accepts a connection, within the time that is left. Tries addresses that did not
+/// answer again, unless the referee lacked a resource for another address.
 fn connect_once<N: Routes + Clock>(
     net: &N,
     lookup: &mut Lookup,
@@ -394,7 +394,7 @@ fn connect_once<N: Routes + Clock>(
     Err(LATE)
 }
 
-/// The longest pause after a try with this error.
+/// The longest pause after an attempt with this error.
 fn longest_pause(fault: ContactFault) -> Duration
     ensures { as_nanos result ≡ longest_pause fault }
 {
@@ -404,8 +404,8 @@ fn longest_pause(fault: ContactFault) -> Duration
     }
 }
 
-/// Pauses before the next try to connect, for at most `limit`. If no time is left for another try, returns the error of the message.
-/// `fault` is the error of this try.
+/// Pauses before the next attempt to connect, for at most `limit`. If no time is left for another attempt, returns the error of the message.
+/// `fault` is the error of this attempt.
 fn pause<N: Clock>(
     net: &N,
     deadline: &mut Deadline,
@@ -426,19 +426,19 @@ fn pause<N: Clock>(
     }
 }
 
-/// What follows a try to connect that failed.
+/// What follows an attempt to connect that failed.
 enum AfterTry {
-    /// Another try, because the referee lacked a resource. A player that accepts no connection is tried for some more
-    /// seconds.
+    /// Another attempt, because the referee lacked a resource. If the player accepts no connection, the seconds of patience begin again.
     Waits,
-    /// Another try.
+    /// Another attempt.
     Tries,
-    /// No other try: the message has this error.
+    /// No further attempt: the message has this error.
     Ends(ContactFault),
 }
 
-/// What follows a try with the error `fault`, after one with the error `before`. A player that accepts no connection, or whose
-/// host has no address, is tried again only if `is_patient`. A try without time left does not count, so the error is that of the earlier try.
+/// What follows an attempt with the error `fault`, after one with the error `before`. If the player accepts no connection, or its
+/// host has no address, another attempt follows only if `is_patient`. An attempt without time left does not count, so the error is that of the
+/// earlier attempt.
 fn after_try(fault: ContactFault, before: ContactFault, is_patient: bool) -> AfterTry
     ensures { result ≡ after_try before is_patient fault }
 {
@@ -450,16 +450,16 @@ fn after_try(fault: ContactFault, before: ContactFault, is_patient: bool) -> Aft
     }
 }
 
-/// A player that accepts no connection is tried again until only this time is left. `left` is the time that is left now.
+/// If a player accepts no connection, the referee tries again until only this time is left. `left` is the time that is left now.
 fn patience_from(left: Duration) -> Duration
     ensures { as_nanos result ≡ as_nanos left - 2_000_000_000 }
 {
     left.saturating_sub(Duration::from_secs(RETRY_SECONDS))
 }
 
-/// Pauses after a try for which the referee lacked a resource. The try and the pause cost the message nothing of the time that it had
+/// Pauses after an attempt for which the referee lacked a resource. The attempt and the pause cost the message nothing of the time that it had
 /// before, `left`. They are taken from `spare`, the time for which the message may still wait for the referee. If no such time is left,
-/// returns the error of the try.
+/// returns the error of the attempt.
 fn wait_for_resource<N: Clock>(
     net: &N,
     deadline: &mut Deadline,
@@ -479,7 +479,7 @@ fn wait_for_resource<N: Clock>(
 
 /// Connects to the player within the time that is left. Tries again while the referee lacks a resource, for as long as the message has time
 /// at first; this costs the message none of its time. If the player accepts no connection or its host has no address, tries again for some
-/// seconds. These are counted from the start of the message, from the last time that the referee lacked a resource, or from a try during
+/// seconds. These are counted from the start of the message, from the last time that the referee lacked a resource, or from an attempt during
 /// which the program was not running.
 fn connect<N: Resolves + Clock>(
     net: &N,
@@ -562,9 +562,9 @@ fn is_cut_by_stop(fault: ContactFault, has_stopped: bool, is_first: bool) -> boo
 }
 
 /// Sends a player a message and returns the body of its answer. The lookup of the host, connecting, writing and reading
-/// may take `seconds` seconds in total. The error says why there is no answer. Two waits cost the message none of this time: one for
-/// resources that the referee lacks, of at most `seconds` seconds, and one while the program is not running. If the player closes the
-/// connection because of such a stop, the message is sent again, with its whole time.
+/// may take `seconds` seconds in total. The error says why there is no answer. Two waits do not count: for
+/// resources that the referee lacks, at most `seconds` seconds, and while the program is not running. If the player closes the
+/// connection because of such a stop, this sends the message again, and the message has its whole time again.
 pub fn contact_found<N: Resolves + Clock>(
     net: &N,
     alloc: Global,
@@ -593,7 +593,7 @@ pub fn contact_found<N: Resolves + Clock>(
     Err(STOPPED)
 }
 
-/// Sends a player a message and returns the body of its answer. The host is looked up only for this message. All steps
+/// Sends a player a message and returns the body of its answer. Looks up the host only for this message. All steps
 /// together may take `seconds` seconds. The error says why there is no answer.
 pub fn contact<N: Resolves + Clock>(
     net: &N,

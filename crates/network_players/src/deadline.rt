@@ -24,13 +24,13 @@ use std::{io, thread};
 const STALL_MILLIS: u64 = 100;
 
 /// The program sleeps through this last part of a message's time, in milliseconds, because the system ends a sleep on
-/// time, but a wait for bytes too late.
+/// time, but it ends a wait for bytes too late.
 const LAST_MILLIS: u64 = 20;
 
-/// The number of reads that may still take the bytes that are there when the time is over. Together they can take the longest answer.
+/// When the time is over, this many reads may still take bytes that have arrived. Together they can take the longest answer.
 const LOOKS: u32 = 64;
 
-/// The time limit of a read whose bytes are there, in milliseconds.
+/// The time limit of a read whose bytes have arrived, in milliseconds.
 const AT_ONCE_MILLIS: u64 = 1;
 
 /// If a player closes the connection while it has the request only in part, a stop that ended at most this many seconds before may be the reason.
@@ -49,8 +49,8 @@ fn charged(asked: Duration, passed: Duration) -> Duration
     }
 }
 
-/// The time limit of the first try to connect, and of each try to write: a quarter of the time that is left, and at most a second. Such a
-/// step mostly ends at once, so a program that is stopped during it loses no more of the message's time than this.
+/// The time limit of the first attempt to connect, and of each attempt to write: a quarter of the time that is left, and at most a second.
+/// Such a step mostly ends at once, so a stop of the program during the step costs the message no more than this time.
 pub(crate) fn first_limit(left: Duration) -> Duration
     ensures { as_nanos result ≡ first_limit (as_nanos left) }
 {
@@ -66,7 +66,7 @@ fn share(left: Duration, among: u32) -> Duration
     (left / among.max(1)).max(Duration::from_millis(1))
 }
 
-/// The time limit of a try to connect to an address. As long as `silent` is 0, there are `untried` addresses, and each gets
+/// The time limit of an attempt to connect to an address. As long as `silent` is 0, there are `untried` addresses, and each gets
 /// only a short time. Then the `silent` addresses that did not answer share the time that is left.
 pub(crate) fn try_limit(left: Duration, silent: u32, untried: usize) -> Duration
     ensures { as_nanos result ≡ try_limit (as_nanos left) silent untried }
@@ -85,7 +85,7 @@ pub(crate) fn doubled(time: Duration, longest: Duration) -> Duration
     time.saturating_mul(2).min(longest)
 }
 
-/// The error of a message whose time is over. How much of the answer has arrived is not known here.
+/// The error of a message whose time is over. The exchange adds how much of the answer has arrived.
 pub(crate) const LATE: ContactFault = ContactFault::Late(Received::Unconnected);
 
 /// The error of a message if the clock cannot be read.
@@ -100,7 +100,7 @@ pub struct Deadline {
     /// The time that was left when the program last continued after a stop. `None` if it was not stopped since the beginning of the last
     /// attempt to connect.
     pub(crate) stopped_at: Option<Duration>,
-    /// How many reads may still take the bytes that are there when the time is over.
+    /// How many reads may still take bytes that have arrived when the time is over.
     looks: u32,
 }
 
@@ -259,7 +259,7 @@ fn take_step<C: Clock, S: OpenStream>(clock: &C, stream: &S, step: &Step) -> io:
 }
 
 /// Whether there is something to read, or the connection is closed or broken. A player sends nothing before it has the request, so in
-/// this case it does not take the request.
+/// both cases it does not read the request.
 pub(crate) fn is_gone<C: Clock, S: OpenStream>(clock: &C, stream: &S) -> bool {
     !matches!(take_step(clock, stream, &Step::Looks), Ok(false))
 }
