@@ -1,4 +1,4 @@
--- A desk over rings, and what its rounds do.
+-- A desk over rings, and the effect of its rounds.
 use Rattle.std.specs.Prelude.{◌≡◌, ◌↔◌, ◌⊎◌, ℕ, ◌<◌, List, [], ◌∷◌, ◌++◌, length, None, IsSome, slice_index_or, option_to_list}
 use Rattle.std.specs.List.{All}
 use Rattle.rtrb.specs.Ring.{sent, received, known_items, known_free}

@@ -1,4 +1,4 @@
--- The texts of call logs have visible ASCII and spaces. Each other byte, and the backslash, is escaped as \xHH.
+-- The texts in call logs consist of visible ASCII and spaces. The backslash and all other bytes are escaped as \xHH.
 use Rattle.std.specs.Prelude.{◌==◌, ◌&&◌, ℕ, ◌+◌, ◌-◌, ◌*◌, ◌/◌, ◌%◌, nat_le, nat_lt, Bool, true, false, not, List, [], ◌∷◌, ◌++◌, Option, Some, None, option_and_then, option_map, if◌then◌else◌}
 use Rattle.game_core.specs.Bytes.{space}
 

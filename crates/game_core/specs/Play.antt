@@ -1,4 +1,4 @@
--- What a game is, and which states joint moves lead to.
+-- Games, and the states that joint moves lead to.
 use Rattle.std.specs.Prelude.{ℕ, Bool, false, List, [], ◌∷◌, Option, Contains, length, slice_index_or, AllPairs, codes, Some, ◌≡◌, ◌≢◌, ◌<◌, ◌≤◌, All}
 use Rattle.game_core.specs.Canonical.{IsCanonicalText, IsFoldedText}
 use Rattle.game_core.specs.Texts.{AreInByteOrder}

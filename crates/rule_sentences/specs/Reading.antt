@@ -23,7 +23,7 @@ unfoldable pub goal_value : Expression → Option ℕ
 goal_value (atom w) = plain_number w max_goal
 goal_value (list xs) = None
 
--- the kind of word that the first member is, if it is an atom
+-- the kind of the first member's word, if this member is an atom
 abbrev pub head_word : Expressions → Option Word
 head_word none = None
 head_word (more (atom w) xs) = Some (word_of w)

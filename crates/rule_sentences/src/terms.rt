@@ -41,7 +41,7 @@ fn have_variable(members: &Vec<Expr>) -> bool
     false
 }
 
-/// Whether an atom may contain the byte, and the byte is not a capital. Four range tests are faster than one test for each
+/// Whether the byte is an atom byte and not a capital. Four range tests are faster than one test for each
 /// refused byte.
 #[tactic(auto, using(std::proofs::lemmas::Bool::Decides::nat_tests))]
 fn is_small_atom_byte(byte: u8) -> bool
