@@ -11,7 +11,7 @@ const MAX_NAME: usize = 64;
 /// The largest number of seconds on a clock.
 pub const MAX_CLOCK: u32 = 86_400;
 
-/// The largest number that a setup may give for the replaced moves in a row that retire a role.
+/// The largest lawful value of `strikes`, the number of replaced moves in a row that retire a role.
 pub const MAX_STRIKES: u32 = 255;
 
 fn is_name_byte(byte: u8) -> bool

@@ -50,7 +50,7 @@ unescaped (byte ∷ (mark ∷ (high ∷ (low ∷ rest)))) =
     else before_rest (Some byte) (unescaped (mark ∷ (high ∷ (low ∷ rest))))
 unescaped (byte ∷ rest) = if byte == backslash then None else before_rest (Some byte) (unescaped rest)
 
--- the value, if the flag says that it could be read
+-- the value if the flag is true, or else None
 abbrev pub read_as : {A : Type 0} → Bool → A → Option A
 read_as true now = Some now
 read_as false now = None

@@ -11,8 +11,8 @@ max_roles = 16
 abbrev pub max_goal : ℕ
 max_goal = 100
 
--- The rules of a game with states of type S and moves of type M. Roles are numbered from 0. IsState and IsMove say which values of the
--- two types belong to the game.
+-- The rules of a game with states of type S and moves of type M. Roles are numbered from 0. IsState and IsMove hold for the values of
+-- these types that belong to the game.
 pub record Rules (S M : Type 0) : Type 1 where
   pub roles : ℕ
   pub role_name : ℕ → List ℕ

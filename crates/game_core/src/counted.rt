@@ -54,7 +54,7 @@ impl<S> Counted<S> {
         self.failed
     }
 
-    /// Gives the stream back.
+    /// Returns the wrapped stream.
     pub fn end(self) -> S
         ensures { result ≡ self.stream }
     {

@@ -27,7 +27,7 @@ pub trait Game {
         requires { role < (rules self.now).roles }
         ensures { result.now ≡ (rules self.now).role_name role };
 
-    /// The state in which the game begins.
+    /// The initial state of the game.
     fn initial(&self, alloc: Global) -> Result<Self::State, AllocError>
         ensures { IfOk result (λ s. s ≡ (rules self.now).initial) };
 

@@ -1,4 +1,4 @@
--- The rows of dependence say which heads depend on the state or on the moves.
+-- The rows of dependence are set for the heads that depend on the state or on the moves.
 use Rattle.std.proofs.Common.{◌≡◌, ℕ, zero, suc, ◌+◌, ◌<◌, ◌⊎◌, inl, inr, Bool, true, false, not, ◌&&◌, ◌||◌, nat_eq, bytes_eq, List, [], ◌∷◌, length, refl, sym, ap, ◌∙◌, arith, subst}
 use mathlib.Core.Bool.{and-true}
 use Rattle.std.specs.List.{list_any}

@@ -91,7 +91,7 @@ wrong-for true false e decides other = λ is. true≢false (sym (decides.1 is))
 wrong-for false true e decides other = decides.0 refl
 wrong-for false false e decides other = absurd cc
 
--- the error may follow the move with index p: it is empty, or the move is the first one and the error does not call a legal move illegal
+-- e may be the error of the move with index p: it is empty, or the move is the first one and e does not call a legal move illegal
 abbrev pub MayFollow : {S M : Type 0} → Rules S M → List M → ℕ → List ℕ → Type 0
 MayFollow g moves p e = (e ≡ []) ⊎ ((p ≤ 0) × ¬ (DeniesOne g moves e))
 

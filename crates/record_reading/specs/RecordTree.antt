@@ -84,7 +84,8 @@ abbrev pub version_said : Option Data → Option Version
 version_said None = Some First
 version_said (Some d) = option_and_then version_numbered (as_whole d)
 
--- The value that counts at a key, given the record's version and the value in the record: here, in every version, the value in the record.
+-- The value that counts at a key, given the version of the record and the value in it. For a key of every version, the value in the record
+-- counts.
 abbrev pub in_each_version : Option Version → Option Data → Option Data
 in_each_version version there = there
 

@@ -120,6 +120,6 @@ abbrev pub read_form : Expression → Option Sentence
 read_form (atom w) = option_map fact (read_alone (word_of w) w)
 read_form (list xs) = read_list (head_word xs) xs
 
--- reads a sentence in which at most max_depth lists nest
+-- reads a sentence with lists nested at most max_depth deep
 abbrev pub read_sentence : Expression → Option Sentence
 read_sentence x = if nat_le (depth x) max_depth then read_form x else None

@@ -99,7 +99,7 @@ fn are_terms(members: &Vec<Expr>) -> bool
     true
 }
 
-/// Whether at most `lists` lists nest in the expression.
+/// Whether the lists in the expression are nested at most `lists` deep.
 #[cycle(nests_at_most)]
 pub fn nests_at_most(expr: &Expr, lists: usize) -> bool
     ensures { result ≡ nat_le (depth (view expr.now)) lists }
