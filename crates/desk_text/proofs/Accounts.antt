@@ -34,7 +34,7 @@ module _ {S : Type 0} (reply : S → Call → Reply) (after : S → Call → S) 
     pub leaves : run after object more ≡ run after start history
     pub counted : calls + length more ≡ length history
 
-  -- if the rest of the lines begins with a history that is legal from the object, all lines begin with a history that is legal from the start
+  -- if the rest of the lines begins with a history that is legal from the object, all lines begin with one that is legal from the start
   abbrev pub IsAccountSoFar : S → List (List ℕ) → List (List ℕ) → S → ℕ → Type 0
   IsAccountSoFar start all rest object calls = (more : List (Entry Call Reply)) (last : List (List ℕ))
       → rest ≡ map entry_text more ++ last → AllByRecursion IsRead more → IsLegalHistory reply after object more → Tells start all last object calls more
