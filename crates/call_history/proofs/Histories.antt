@@ -19,7 +19,7 @@ module _ {S C R : Type 0} (reply : S → C → R) (after : S → C → S) where
       let rest : IsLegalHistory reply after (after s x.call) es × (e.reply ≡ reply (run after (after s x.call) es) e.call) = IsLegalHistory-unsnoc (after s x.call) es e legal.1 in
       ((legal.0, rest.0), rest.1)
 
-  -- the object makes one more call, and the history gets its entry
+  -- one more call on the object, and its entry at the end of the history
   pub IsReplay-snoc : (opening : S → S) → ((s : S) (c : C) → opening (after s c) ≡ opening s)
       → (old new : S) (es es' : List (Entry C R)) (e : Entry C R)
       → IsReplay reply after opening old es → e.reply ≡ reply old e.call → new ≡ after old e.call → es' ≡ es ++ e ∷ []

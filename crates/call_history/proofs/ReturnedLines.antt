@@ -7,8 +7,8 @@ use Rattle.std.proofs.lemmas.List.Sums.{sum_by-set, sum_by-cons}
 use Rattle.std.proofs.lemmas.List.Folds.{sum_by-replicate}
 use Rattle.call_history.specs.Lines.{LockLineValue, numbers, has_number, HasAll}
 
--- Of these lines, rest are still to come. For an awaited number, no line has come yet. For each other number, made has the number of
--- the line's calls. The parts and the amount are those of the combined shares.
+-- Of these lines, those in `rest` are still to come. For an awaited number, no line has come yet. For each other number, `made` has the
+-- number of the line's calls. The parts and the amount are those of the combined shares.
 pub record IsGathering (lines rest : List LockLineValue) (awaited : List Bool) (made : List ℕ) (parts amount : ℕ) : Type 0 where
   pub width : length made ≡ length awaited
   pub parts_so_far : parts + count_by (λ b. b) awaited ≡ length awaited
@@ -98,7 +98,7 @@ IsGathering-take lines left rest line awaited made parts amount parts' amount' b
       ];
     }
 
--- any other line
+-- a line whose number is not awaited
 pub IsGathering-pass : (lines left rest : List LockLineValue) (line : LockLineValue) (awaited : List Bool) (made : List ℕ) (parts amount : ℕ) → IsGathering lines left awaited made parts amount
     → left ≡ line ∷ rest → get_or awaited line.number false ≡ false → IsGathering lines rest awaited made parts amount
 IsGathering-pass lines left rest line awaited made parts amount before comes passed =

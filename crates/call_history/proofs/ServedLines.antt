@@ -1,4 +1,4 @@
--- How serving one line changes what the desk has served to all lines.
+-- The effect of serving one line on the calls and replies that the desk has served for all lines.
 use Rattle.std.proofs.Common.{◌≡◌, ℕ, ◌+◌, ◌<◌, ◌≤◌, ◌⊎◌, ◌≢◌, List, [], ◌∷◌, ◌++◌, length, get_or, set, refl, sym, subst, ◌∙◌, arith, rules, ⊎_elim, inl, inr, true, false, Result, Ok, Err, MatchResult, IfOk}
 use Rattle.std.proofs.lemmas.Grind.{common_steps}
 use Rattle.std.proofs.lemmas.Bool.Decides.{eqb_tells}

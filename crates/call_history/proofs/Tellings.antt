@@ -1,4 +1,4 @@
--- What is shown grows step by step.
+-- The shown events grow step by step.
 use Rattle.std.proofs.Common.{◌≡◌, List, [], ◌++◌, Option, Some, None, refl, ap, append_assoc, append-nil}
 use Rattle.call_history.specs.Told.{told_with}
 
@@ -10,5 +10,5 @@ pub told_with-nil : {A : Type 0} (told : Option (List A)) → told_with told [] 
 told_with-nil None = refl
 told_with-nil (Some before) = ap Some (append-nil before)
 
--- as a ruleset that attributes can name
+-- these lemmas as a ruleset, so that attributes can name it
 pub ruleset told_again = (told_with-append, told_with-nil)

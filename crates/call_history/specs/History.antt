@@ -1,5 +1,5 @@
--- The value after a history, and when a history is legal, for any object. An object is given by its reply to a call, its value after a call,
--- and its opening, which is its value before all calls.
+-- The value after a history, and when a history is legal, for any object. An object is described by its reply to a call, its value after a
+-- call, and its opening, which is its value before all calls.
 use Rattle.std.specs.Prelude.{◌≡◌, ℕ, List, [], ◌∷◌, ◌++◌}
 use Rattle.call_history.specs.declared.journal.Entry.{Entry}
 

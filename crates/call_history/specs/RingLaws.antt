@@ -1,4 +1,4 @@
--- What stays true for the lines of a desk over rings while calls are posted and served and replies are taken.
+-- Properties of the lines of a desk over rings that stay true while calls are posted and served and replies are taken.
 use Rattle.std.specs.Prelude.{◌≡◌, ℕ, ◌<◌, List, length, true, Contains}
 use Rattle.call_history.specs.declared.port.Port.{Port}
 use Rattle.call_history.specs.Lines.{has_number}

@@ -1,4 +1,4 @@
--- A desk over rings, and what its rounds do.
+-- A desk over rings, and the effect of its rounds.
 use Rattle.std.specs.Prelude.{◌≡◌, ◌↔◌, ◌⊎◌, ℕ, ◌<◌, List, [], ◌∷◌, ◌++◌, length, None, IsSome, slice_index_or, option_to_list}
 use Rattle.std.specs.List.{All}
 use Rattle.rtrb.specs.Ring.{sent, received, known_items, known_free}
@@ -18,7 +18,7 @@ pub record Serves {C R : Type 0} (served : List (Entry C R)) (port : Port C R) :
   pub calls : received port.calls ≡ calls_of served ++ option_to_list port.kept
   pub replies : sent port.replies ≡ replies_of served
 
--- What holds between rounds: each entry belongs to a line of the desk, and the desk has served each line its part of the history.
+-- The invariant between rounds: each entry belongs to a line of the desk, and the desk has served each line its part of the history.
 pub record ServesLines {C R : Type 0} (history : List (Entry C R)) (ports : List (Port C R)) : Type 0 where
   pub lines : All (λ e. e.line < length ports) history
   pub parts : (i : ℕ) (p : Port C R) → i < length ports → Serves (part i history) (slice_index_or ports i p)

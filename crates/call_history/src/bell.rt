@@ -7,8 +7,8 @@ const AWAKE: u64 = 0;
 
 const ASLEEP: u64 = 1;
 
-/// The bell of a desk over rings. A line rings the bell after it posts a call, and when it will post no more. The desk's thread
-/// sleeps on the bell while no call comes, and signals through it that the desk makes no further calls.
+/// The bell of a desk over rings. A line rings the bell after it posts a call, and when it will post no more calls. The desk's
+/// thread sleeps on the bell while no call comes, and uses the bell to signal that the desk makes no further calls.
 ///
 /// No guarantee of a desk or a line depends on the bell.
 #[derive(Drop)]

@@ -7,7 +7,7 @@ ghost use Rattle.call_history.specs.Lines.{numbers, has_number, HasAll, IsLowest
 use crate::line::LockLine;
 use std::sync::ledger::{Ledger, Share};
 
-/// A line that comes back to its desk, either from a lock or from rings.
+/// A line that is returned to its desk, which is behind a lock or over rings.
 pub(crate) trait Numbered {
     ghost number: { Self → ℕ };
 
@@ -53,7 +53,7 @@ pub(crate) fn lowest_missing<N: Numbered>(lines: &[N], found: &mut [bool]) -> Op
 }
 
 /// Combines the shares of the lines, and stores how many calls each line made. A place of `awaited` is true until the line
-/// with that number has come. A second line with the same number is dropped, and so is a line whose number has no place.
+/// with that number has come. A second line with the same number is dropped. A line whose number has no place is also dropped.
 pub(crate) fn gather<L: Ledger>(
     lines: Vec<LockLine<L>>,
     awaited: &mut [bool],

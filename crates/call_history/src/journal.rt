@@ -10,7 +10,7 @@ use std::error::Error;
 use std::fmt;
 use std::marker::Model;
 
-/// The largest number of entries for which a history can be opened.
+/// The largest number of entries that a history can be opened for.
 pub const MAX_ENTRIES: u64 = 1_000_000;
 
 /// Why a call was not made. The history does not have the call, and nothing has changed.

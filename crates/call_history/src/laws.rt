@@ -1,11 +1,11 @@
 //! Laws of the definitions of this crate. Each is a function that does nothing.
 //!
 //! The definitions read a history from its front. Two laws give the values of these definitions for a history with one
-//! more entry at its end. By induction, they determine the values for each history. One law says that the constants are
+//! more entry at its end. By induction, they determine the values for each history. One law states that the constants are
 //! the limits of the definitions.
 //!
-//! The laws on rings say that serving, posting and taking do not change which lines belong to a desk. So a
-//! caller that keeps the lines can close the desk with their ends. These laws have no arguments, because they relate values
+//! The laws on rings state that serving, posting and taking do not change which lines belong to a desk. A caller that keeps
+//! the lines can therefore close the desk with their ends. These laws have no arguments, because they relate values
 //! from before and after such calls: name the type of the desk's object when you call them.
 ghost use Rattle.std.specs.Prelude.{◌≡◌, ◌↔◌, [], ◌∷◌, ◌++◌};
 ghost use Rattle.call_history.specs.History.{run, IsLegalHistory};
@@ -39,7 +39,7 @@ pub fn legal_with_one_more<O: Object>(
         × (last.now.reply ≡ O.reply (run O.after object.now history.now) last.now.call)) }
 {}
 
-/// `MAX_ENTRIES` is the limit of entries in a history, `MAX_LINES` that of lines of a desk, and `MAX_ROOM` that of slots in
+/// `MAX_ENTRIES` is the limit on the entries of a history, `MAX_LINES` on the lines of a desk, and `MAX_ROOM` on the slots of
 /// a ring.
 pub fn constants_are_the_limits()
     ensures entries { MAX_ENTRIES ≡ max_entries }

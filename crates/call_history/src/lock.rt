@@ -172,7 +172,7 @@ impl<O: Object, L: Ledger> LockDesk<O, L> {
     /// Makes a call on the line. Waits for the lock, and holds it only for this call.
     ///
     /// After `Ok`, the history that `close` returns has the entry. `ask` returns `Full` only if that history is full. No
-    /// contract says so, because no contract can name the data under the lock.
+    /// contract states this, because no contract can name the data under the lock.
     pub fn ask<R: Wait>(
         &self,
         rt: &R,

@@ -27,8 +27,8 @@ impl<'a, O: Object, L: Ledger, R> Model for LockWire<'a, O, L, R> {
 }
 
 impl<'a, O: Object, L: Ledger, R> LockWire<'a, O, L, R> {
-    /// Creates a wire that makes the line's calls on this desk. Each call waits for the lock with this runtime; no other
-    /// method waits.
+    /// Creates a wire that makes the line's calls on this desk. Each call uses this runtime to wait for the lock; no
+    /// other method waits.
     pub fn new(rt: &'a R, desk: &'a LockDesk<O, L>, line: LockLine<L>) -> LockWire<'a, O, L, R>
         ensures { result ≡ line }
     {

@@ -7,11 +7,11 @@ use std::{hint, thread};
 /// The number of rests in a row that only spin. Together they take about as long as a line needs for its next call.
 const SPINS: u32 = 64;
 
-/// How many further rests yield the processor to another thread, before the thread sleeps.
+/// The number of further rests that yield the processor to another thread, before the thread sleeps.
 const YIELDS: u32 = 8;
 
-/// Counts the rests in a row of the thread that serves a desk. A call that comes soon is found without delay, and a long
-/// wait takes no processor time.
+/// Counts the rests in a row of the thread that serves a desk. The thread finds a call that comes soon without delay, and
+/// sleeps during a long wait, so that the wait takes no processor time.
 #[derive(Drop)]
 pub struct Pause<'a> {
     bell: &'a Bell,
@@ -51,7 +51,7 @@ impl<'a> Pause<'a> {
         }
     }
 
-    /// Ends the rests in a row, because a call was found.
+    /// Ends the rests in a row, because the thread found a call.
     pub fn end(&mut self) {
         self.spins = SPINS;
         self.yields = YIELDS;

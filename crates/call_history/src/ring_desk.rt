@@ -123,7 +123,7 @@ impl<O: Object> RingDesk<O> {
             (λ served. Gains self.old.journal.history self.new.journal.history (length self.old.ports) served)
             (λ fault. Gains self.old.journal.history self.new.journal.history fault.line fault.served) }
 
-        // The round visits all lines before the one at which it stops. It takes no call from a line without a free slot.
+        // The round visits all lines before the line where it stops. It takes no call from a line without a free slot.
         ensures visits { MatchResult result
             (λ _. Visits self.old.journal.history self.new.journal.history self.old.ports self.new.ports (length self.old.ports))
             (λ fault. Visits self.old.journal.history self.new.journal.history self.old.ports self.new.ports fault.line) }

@@ -28,7 +28,7 @@ impl<O: Object> Model for RingLine<O> {
     ghost invariant = { λ l. (l.posted ≡ length (sent l.calls)) × (l.taken ≡ length (received l.replies)) };
 }
 
-/// The end of a line: a line that posts no more calls. A desk is closed with the ends of its lines. Contracts see the line.
+/// The end of a line: a line that posts no more calls. To close a desk, you need the ends of all its lines. Contracts see the line.
 #[derive(Drop)]
 pub struct LineEnd<O: Object> {
     pub(crate) line: RingLine<O>,

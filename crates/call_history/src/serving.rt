@@ -10,8 +10,8 @@ use crate::object::Object;
 use crate::port::Port;
 use crate::ring_desk::DeskFault;
 
-/// Serves at most one call of a line: the kept call or, if there is none, the next call that has arrived. Skips a line that has no free slot
-/// for a reply.
+/// Serves at most one call of a line: the kept call or, if there is none, the next call that has arrived. Skips a line that
+/// has no free slot for a reply.
 fn serve<O: Object>(
     journal: &mut Journal<O>,
     port: &mut Port<O::Call, O::Reply>,

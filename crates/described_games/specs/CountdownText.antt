@@ -29,7 +29,7 @@ turn_rules =
 abbrev pub step_rule : ℕ → ℕ → List ℕ → List ℕ
 step_rule left before word = codes "(<= (next (heap " ++ (decimal left ++ (codes ")) (true (heap " ++ (decimal before ++ (codes ")) " ++ (word ++ (codes ")" ++ line_feed ∷ []))))))
 
--- the rules by which heaps of at most `size` become a heap of `left`: a move takes one or two
+-- the rules that turn a heap of at most `size` into a heap of `left`: a move takes one or two
 abbrev pub steps_to : ℕ → ℕ → List ℕ
 steps_to size left = step_rule left (left + 1) (codes "one") ++ (if nat_lt (left + 1) size then step_rule left (left + 2) (codes "two") else [])
 

@@ -37,7 +37,7 @@ fn push_step(rules: &mut String, left: u16, before: u16, word: &str) -> fmt::Res
     Ok(())
 }
 
-/// Appends the rules by which heaps of at most `size` become a heap of `left`.
+/// Appends the rules that turn a heap of at most `size` into a heap of `left`.
 fn push_steps_to(rules: &mut String, size: u8, left: u8) -> fmt::Result
     ensures { OnOk result (string_bytes rules.new ≡ string_bytes rules.old ++ steps_to size left) }
 {

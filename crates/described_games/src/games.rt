@@ -67,8 +67,7 @@ fn loaded(alloc: Global, limits: Limits, rules: &[u8]) -> Result<GroundGame, Des
     Ok(load_within(alloc, limits, sentences)?)
 }
 
-/// Makes the game of a ground description, in the form that is fast to play. The error is the first error of the text within
-/// these limits, or `Memory`.
+/// Makes the packed game of a ground description. The error is the first error of the text within these limits, or `Memory`.
 pub fn described_game(
     alloc: Global,
     limits: Limits,

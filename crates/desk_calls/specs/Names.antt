@@ -1,4 +1,4 @@
--- Which ids, names of players, clocks and setups are lawful.
+-- Lawful ids, names of players, clocks and setups.
 use Rattle.std.specs.Prelude.{◌≡◌, ℕ, Bool, true, ◌&&◌, ◌||◌, ◌==◌, nat_le, List, length}
 use Rattle.std.specs.List.{list_all}
 use Rattle.desk_calls.specs.declared.setup.Setup.{Setup}
@@ -41,11 +41,11 @@ is_name text = is_between 1 max_name (length text) && list_all is_name_byte text
 abbrev pub is_clock : ℕ → Bool
 is_clock seconds = is_between 1 max_clock seconds
 
--- the largest lawful number of replaced moves in a row that retire a role
+-- the largest lawful value of `strikes`, the number of replaced moves in a row that retire a role
 abbrev pub max_strikes : ℕ
 max_strikes = 255
 
--- a lawful number of replaced moves in a row that retire a role; 0 means never
+-- a lawful value of `strikes`, the number of replaced moves in a row that retire a role; 0 means never
 abbrev pub is_strikes : ℕ → Bool
 is_strikes n = nat_le n max_strikes
 

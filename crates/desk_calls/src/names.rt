@@ -1,4 +1,4 @@
-//! Which ids, names of players, clocks and strikes are lawful.
+//! Tests of ids, names of players, clocks and strikes.
 ghost use Rattle.std.specs.Prelude.{◌≡◌, ◌&&◌};
 ghost use Rattle.std.specs.List.{list_all};
 ghost use Rattle.desk_calls.specs.Names.{is_between, max_name, is_name_byte, is_name, is_clock, is_strikes};
@@ -11,7 +11,7 @@ const MAX_NAME: usize = 64;
 /// The largest number of seconds on a clock.
 pub const MAX_CLOCK: u32 = 86_400;
 
-/// The largest lawful number of replaced moves in a row that retire a role.
+/// The largest lawful value of `strikes`, the number of replaced moves in a row that retire a role.
 pub const MAX_STRIKES: u32 = 255;
 
 fn is_name_byte(byte: u8) -> bool

@@ -24,7 +24,8 @@ no_lines [] empty = refl
 no_lines (byte ∷ text) empty = absurd (omega arith)
 
 module _ {S : Type 0} (reply : S → Call → Reply) (after : S → Call → S) where
-  -- All lines are those of a legal history from the start, and then the last lines. The history has the calls made so far, and `more`.
+  -- All lines are the lines of a history that is legal from the start, followed by the last lines. The history has the calls made so far
+  -- and as many more as `more`, and leads to the same object.
   pub record Tells (start : S) (all last : List (List ℕ)) (object : S) (calls : ℕ) (more : List (Entry Call Reply)) : Type 0 where
     pub history : List (Entry Call Reply)
     pub cut : all ≡ map entry_text history ++ last
@@ -33,7 +34,7 @@ module _ {S : Type 0} (reply : S → Call → Reply) (after : S → Call → S) 
     pub leaves : run after object more ≡ run after start history
     pub counted : calls + length more ≡ length history
 
-  -- each history from the object in the last lines continues one from the start in all lines
+  -- if the rest of the lines begins with a history that is legal from the object, all lines begin with one that is legal from the start
   abbrev pub IsAccountSoFar : S → List (List ℕ) → List (List ℕ) → S → ℕ → Type 0
   IsAccountSoFar start all rest object calls = (more : List (Entry Call Reply)) (last : List (List ℕ))
       → rest ≡ map entry_text more ++ last → AllByRecursion IsRead more → IsLegalHistory reply after object more → Tells start all last object calls more

@@ -20,7 +20,7 @@ pub from_lower : (least lower : ℕ) (xs : List ℕ) → lower ≤ least → Are
 from_lower least lower [] below are = tt
 from_lower least lower (x ∷ xs) below are = (omega (arith, below, are.0), from_lower least lower xs below are.1)
 
--- proved by computing a test
+-- shown by computing the test
 pub from_tested : (least : ℕ) (xs : List ℕ) → list_all (λ byte. nat_le least byte) xs ≡ true → AreFrom least xs
 from_tested least [] is = tt
 from_tested least (x ∷ xs) is =

@@ -1,4 +1,4 @@
--- The number of some digits, digit by digit.
+-- The number that digits represent, computed digit by digit.
 use Rattle.std.proofs.Common.{◌≡◌, ℕ, zero, suc, ◌+◌, ◌-◌, ◌*◌, ◌/◌, ◌<◌, ◌≤◌, true, nat_lt, List, [], ◌∷◌, length, get_or, take, sym, ◌∙◌, arith}
 use Rattle.std.specs.Char.{digit_value, is_ascii_digit}
 use Rattle.std.specs.List.{list_all}
@@ -23,7 +23,7 @@ next_number digits i n r are within so_far more =
     let last : r ≡ digit_value (get_or digits i 0) = more ∙ value_is (get_or digits i 0) (digit_at digits i (and_parts (nat_lt 0 (length digits)) (list_all is_ascii_digit digits) are).1 within) in
     (λ j. so_far j * 10 + last j) ∙ sym (digits_value_more 10 digits i within)
 
--- if the number so far does not fit into 64 bits, the whole number does not either
+-- if the number so far does not fit into 64 bits, the whole number does not fit
 pub too_long : (digits : List ℕ) (i n r : ℕ) → n * 10 + r ≡ digits_value 10 (take (i + 1) digits) → (18446744073709551615 - r) / 10 < n → 18446744073709551616 ≤ digits_value 10 digits
 too_long digits i n r next above =
     let least = digits_value-take-le 10 digits (i + 1) (omega arith) in

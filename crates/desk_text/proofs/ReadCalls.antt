@@ -22,7 +22,7 @@ pub words_of_spaced : (w : List ℕ) (ws : List (List ℕ)) → AreFrom 33 w →
 words_of_spaced w [] first others = ap words (append-nil w) ∙ uncut space w (lacks_below space 33 w (omega arith) first)
 words_of_spaced w (v ∷ ws) first others = cut_front space w (v ++ behind_spaces ws) (lacks_below space 33 w (omega arith) first) ∙ ap (λ vs. w ∷ vs) (words_of_spaced v ws others.0 others.1)
 
--- if a text follows them, its words follow
+-- if a text follows these words, its words follow them
 pub words_of_text : (w : List ℕ) (ws : List (List ℕ)) (text : List ℕ) → AreFrom 33 w → AllByRecursion (AreFrom 33) ws → words (spaced (w ∷ (ws ++ text ∷ []))) ≡ w ∷ (ws ++ words text)
 words_of_text w [] text first others = cut_front space w (text ++ []) (lacks_below space 33 w (omega arith) first) ∙ ap (λ t. w ∷ words t) (append-nil text)
 words_of_text w (v ∷ ws) text first others = cut_front space w (spaced (v ∷ (ws ++ text ∷ []))) (lacks_below space 33 w (omega arith) first) ∙ ap (λ vs. w ∷ vs) (words_of_text v ws text others.0 others.1)

@@ -1,4 +1,4 @@
--- The texts of call logs have visible ASCII and spaces. Each other byte, and the backslash, is escaped as \xHH.
+-- The texts in call logs consist of visible ASCII and spaces. The backslash and all other bytes are escaped as \xHH.
 use Rattle.std.specs.Prelude.{◌==◌, ◌&&◌, ℕ, ◌+◌, ◌-◌, ◌*◌, ◌/◌, ◌%◌, nat_le, nat_lt, Bool, true, false, not, List, [], ◌∷◌, ◌++◌, Option, Some, None, option_and_then, option_map, if◌then◌else◌}
 use Rattle.game_core.specs.Bytes.{space}
 
@@ -50,7 +50,7 @@ unescaped (byte ∷ (mark ∷ (high ∷ (low ∷ rest)))) =
     else before_rest (Some byte) (unescaped (mark ∷ (high ∷ (low ∷ rest))))
 unescaped (byte ∷ rest) = if byte == backslash then None else before_rest (Some byte) (unescaped rest)
 
--- the value, if the flag says that it could be read
+-- the value if the flag is true, or else None
 abbrev pub read_as : {A : Type 0} → Bool → A → Option A
 read_as true now = Some now
 read_as false now = None

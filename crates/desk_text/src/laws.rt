@@ -19,7 +19,7 @@ pub fn histories_are_read()
 {}
 
 /// The text of an entry whose fields fit their types has the form that `is_account_line` recognizes, so this text is never
-/// taken for a record.
+/// mistaken for a record.
 pub fn entries_have_their_form()
     ensures { (e : _) → IsEntry e → HasReplyNumbers e.reply → is_account_line (entry_text e) ≡ true }
 {}

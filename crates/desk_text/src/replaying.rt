@@ -31,7 +31,7 @@ pub enum ReplayFault {
     Memory,
     /// The line has no valid call.
     NoEntry(u64, LineFault),
-    /// The call gets another reply, or the line is written in another way. The bytes are the correct line.
+    /// The call gets a different reply, or the line is not exactly the line that `push_history` writes. The bytes are the correct line.
     Differs(u64, Vec<u8>),
 }
 

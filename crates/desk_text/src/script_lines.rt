@@ -12,7 +12,7 @@ use std::alloc::{AllocError, Global};
 
 const MAX_NUMBER: u64 = 1_000_000_000;
 
-/// Which names and numbers a call may have in a text.
+/// The names and numbers that a call may have in a text.
 #[derive(Clone, Copy)]
 pub(crate) struct Grammar {
     pub(crate) has_empty_names: bool,
@@ -31,7 +31,7 @@ const SCRIPT: Grammar = Grammar {
     largest: MAX_NUMBER,
 };
 
-/// The first word as a name, and the words after it.
+/// Reads the first word as a name. Also returns the words after it.
 fn name<'a>(
     grammar: Grammar,
     rest: Option<&'a [u8]>,
@@ -48,7 +48,7 @@ fn name<'a>(
     Ok((word, rest))
 }
 
-/// The first word as a number, and the words after it.
+/// Reads the first word as a number. Also returns the words after it.
 fn number<'a>(
     grammar: Grammar,
     rest: Option<&'a [u8]>,
@@ -65,7 +65,7 @@ fn number<'a>(
     }
 }
 
-/// Whether the first word is `broken` (and not `silent`), and the words after it.
+/// Returns whether the first word is `broken` rather than `silent`, and the words after it.
 fn reason(rest: Option<&[u8]>) -> Result<(bool, Option<&[u8]>), LineFault>
     ensures { option_map (λ r. (r.0, words_behind (option_copied r.1))) (result_ok result) ≡ first_reason (words_behind (option_copied rest.entry)) }
 {
@@ -152,7 +152,7 @@ fn opening_words(
     })
 }
 
-/// All words as names.
+/// Reads all words as names.
 fn names(
     alloc: Global,
     grammar: Grammar,

@@ -1,4 +1,4 @@
--- The number that digits write, digit by digit.
+-- The number that digits represent, computed digit by digit.
 use Rattle.std.proofs.Common.{◌≡◌, ℕ, zero, suc, ◌+◌, ◌-◌, ◌*◌, None, take, ◌<◌, true, false, List, [], ◌∷◌, length, get_or, refl, sym, ◌∙◌, arith}
 use Rattle.std.specs.Prelude.{nat_lt, nat_le}
 use Rattle.std.specs.List.{list_all}
@@ -30,7 +30,7 @@ next_number digits i n r e within so_far more =
     let last : r ≡ digit_value (get_or digits i 0) = more ∙ digit_less (get_or digits i 0) (digit_at digits i (numeral_parts digits e).1 within) in
     (λ j. so_far j * 10 + last j) ∙ sym (digits_value_more 10 digits i within)
 
--- if the number read so far is too large, so is the whole number
+-- if the number read so far exceeds the limit, the whole number exceeds it too
 pub too_great : (digits : List ℕ) (i n limit : ℕ) → n ≡ digits_value 10 (take i digits) → limit < n
     → None ≡ number_up_to digits limit
 too_great digits i n limit so_far above =

@@ -1,4 +1,4 @@
--- Which words are read as a number.
+-- The only word that is read as a number is the decimal text of the number.
 use Rattle.std.proofs.Common.{◌≡◌, ℕ, ◌<◌, ◌≤◌, ◌^◌, Bool, true, false, cond, nat_le, if◌then◌else◌, Some, None, List, refl, sym, ap, subst, ◌∙◌, arith, le-leb}
 use Rattle.std.specs.Fmt.{decimal}
 use Rattle.std.specs.Str.Parse.{digits_value}

@@ -1,4 +1,4 @@
--- The plain expression: a KIF expression as a tree, independent of its place in memory.
+-- A KIF expression as a plain tree, independent of its place in memory.
 use Rattle.std.specs.Prelude.{ℕ, suc, ◌≡◌, ◌<◌, ◌≤◌, max, map, length, List, [], ◌∷◌, true}
 use Rattle.game_core.specs.Bytes.{is_atom_byte, lower}
 
@@ -47,10 +47,10 @@ abbrev mutual
   AllHaveAtoms none = Unit {0}
   AllHaveAtoms (more x xs) = HasAtoms x × AllHaveAtoms xs
 
--- the largest number of lists that nest in a proper expression
+-- the largest depth of nested lists in a proper expression
 abbrev pub max_depth : ℕ
 max_depth = 64
 
--- all atoms are valid, and at most max_depth lists nest
+-- all atoms are valid, and lists are nested at most max_depth deep
 abbrev pub IsProper : Expression → Type 0
 IsProper x = HasAtoms x × (depth x ≤ max_depth)

@@ -1,4 +1,4 @@
--- What a game is, and which states joint moves lead to.
+-- Games, and the states that joint moves lead to.
 use Rattle.std.specs.Prelude.{ℕ, Bool, false, List, [], ◌∷◌, Option, Contains, length, slice_index_or, AllPairs, codes, Some, ◌≡◌, ◌≢◌, ◌<◌, ◌≤◌, All}
 use Rattle.game_core.specs.Canonical.{IsCanonicalText, IsFoldedText}
 use Rattle.game_core.specs.Texts.{AreInByteOrder}
@@ -11,8 +11,8 @@ max_roles = 16
 abbrev pub max_goal : ℕ
 max_goal = 100
 
--- The rules of a game with states of type S and moves of type M. Roles are numbered from 0. IsState and IsMove say which values of the
--- two types belong to the game.
+-- The rules of a game with states of type S and moves of type M. Roles are numbered from 0. IsState and IsMove hold for the values of
+-- these types that belong to the game.
 pub record Rules (S M : Type 0) : Type 1 where
   pub roles : ℕ
   pub role_name : ℕ → List ℕ

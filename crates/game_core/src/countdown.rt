@@ -111,7 +111,7 @@ impl Side {
         }
     }
 
-    /// The term that says whose turn it is, in the text of a state.
+    /// In the text of a state, the term that names the role whose turn it is.
     fn term(self) -> &'static [u8]
         ensures { result.now ≡ turn_text self }
     {

@@ -8,14 +8,14 @@ use std::io;
 use std::io::{Read, Write};
 use std::marker::Model;
 
-/// The largest number of reads of one input, or of writes of one output. After this many calls, callers give up a stream
+/// The largest number of reads of one input, or of writes to one output. After this many calls, callers give up on a stream
 /// that has not ended.
 pub const MAX_STREAM_CALLS: u32 = 200_000;
 
-/// A stream that counts its failed reads and writes. A failure is an `Err`, including an interruption, or a write of some
-/// bytes that takes none of them. The count stops at 2^64 - 1.
+/// A stream that counts its failed reads and writes. A call fails if it returns `Err`, even for an interruption, or if it is
+/// a write that is given at least one byte and writes none. The count stops at 2^64 - 1.
 ///
-/// Contracts also count all calls, for clauses about the number of reads or writes.
+/// Contracts also see the number of all calls, for clauses that limit reads or writes.
 ///
 /// `Counted` does not implement `Read` or `Write`, because their provided methods would not keep the count.
 #[derive(Drop)]
@@ -54,7 +54,7 @@ impl<S> Counted<S> {
         self.failed
     }
 
-    /// Gives the stream back.
+    /// Returns the wrapped stream.
     pub fn end(self) -> S
         ensures { result ≡ self.stream }
     {

@@ -27,7 +27,7 @@ pub trait Game {
         requires { role < (rules self.now).roles }
         ensures { result.now ≡ (rules self.now).role_name role };
 
-    /// The state in which the game begins.
+    /// The initial state of the game.
     fn initial(&self, alloc: Global) -> Result<Self::State, AllocError>
         ensures { IfOk result (λ s. s ≡ (rules self.now).initial) };
 
@@ -74,7 +74,7 @@ pub trait Game {
         requires { (rules self.now).IsMove taken.now }
         ensures { result.now ≡ (rules self.now).move_text taken.now };
 
-    /// The state's terms in canonical text, each once, in byte order. A game that keeps these texts lends them.
+    /// The state's terms in canonical text, each once, in byte order. A game that stores these texts returns them borrowed.
     fn state_text(
         &self,
         alloc: Global,

@@ -1,4 +1,4 @@
-//! What a game is, and the types that all other crates use: texts, joint moves, counted streams.
+//! The definition of a game, and the types that all other crates use: texts, joint moves, counted streams.
 #![tactic(auto)]
 
 mod countdown;

@@ -8,10 +8,10 @@ pub const MAX_ROLES: usize = 16;
 /// The highest goal value.
 pub const MAX_GOAL: u8 = 100;
 
-/// The largest number of lists that nest in a proper expression.
+/// The largest depth of nested lists in a proper expression.
 pub const MAX_DEPTH: usize = 64;
 
-/// Which limits a description must keep.
+/// The set of limits that applies to a description.
 #[derive(Clone, Copy)]
 pub enum Limits {
     /// The limits of ordinary games.

@@ -9,8 +9,8 @@ use crate::joint::Joint;
 use std::alloc::{AllocError, Global};
 use thiserror::Error;
 
-/// Why a list of joint moves cannot be played. The error names the first turn that is wrong, and the first of these errors
-/// that the turn has. Turns and roles are numbered from 0.
+/// Why a list of joint moves cannot be played. The error names the first wrong turn. If that turn has several of these errors,
+/// the first one in this list is reported. Turns and roles are numbered from 0.
 #[derive(Clone, Copy, Debug, PartialEq, Eq, Error)]
 pub enum PlayFault {
     /// The state before this turn is terminal.

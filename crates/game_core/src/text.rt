@@ -12,7 +12,7 @@ use std::cmp::Ordering;
 use std::hash::{Hash, Hasher};
 use std::marker::Model;
 
-/// A text: any bytes, mostly ASCII. Contracts see the bytes of the text, which comparison and hashing use too.
+/// A text: any bytes, usually ASCII. Contracts see the bytes of the text. Comparison and hashing use them, too.
 #[derive(Drop)]
 pub struct Text {
     pub bytes: Vec<u8>,

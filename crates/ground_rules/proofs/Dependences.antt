@@ -1,4 +1,4 @@
--- The rows of dependence say which heads depend on the state or on the moves.
+-- The rows of dependence are set for the heads that depend on the state or on the moves.
 use Rattle.std.proofs.Common.{◌≡◌, ℕ, zero, suc, ◌+◌, ◌<◌, ◌⊎◌, inl, inr, Bool, true, false, not, ◌&&◌, ◌||◌, nat_eq, bytes_eq, List, [], ◌∷◌, length, refl, sym, ap, ◌∙◌, arith, subst}
 use mathlib.Core.Bool.{and-true}
 use Rattle.std.specs.List.{list_any}
@@ -46,7 +46,7 @@ pub exposed-ranked : (rank : ℕ → ℕ) (low atoms : ℕ) (of_state : Bool) (r
 exposed-ranked rank low atoms of_state [] h = tt
 exposed-ranked rank low atoms of_state (r ∷ rs) h = (h.0, h.1, (all-exposed-atoms (λ a. rank a < rank r.head) of_state r.body h.2, tt), exposed-ranked rank (rank r.head) atoms of_state rs h.3)
 
--- the row of dependence, as an equation
+-- the equation that the row of dependence satisfies
 pub record IsDependence (names : NameTable) (d : Description) (of_state : Bool) (row : ℕ → Bool) : Type 0 where
   pub equation : (n : ℕ) → row n ≡ derived (numbered [] []) row (exposed_rules of_state (resolved_rules names d)) n
 
@@ -109,7 +109,7 @@ depends-set names d of_state row a eq (at_once b r is head given) =
 depends-set names d of_state row a eq (through b c r is head speaks rest) =
     ap (λ x. row (atom_number names x)) (sym head) ∙ eq.equation (atom_number names r.head) ∙ rule-derives names of_state row r d is (any-spoken-true names of_state row c r.body (depends-set names d of_state row c eq rest) speaks)
 
--- why the body of a rule contains a given sentence or an atom that is set
+-- the literal contains a given sentence, or an atom that is set
 abbrev Spoken : NameTable → Bool → (ℕ → Bool) → TextLiteral → Type 0
 Spoken names of_state row l = (speaks_of_given of_state l ≡ true) ⊎ ((c : Derived) × SpeaksOf c l × (row (atom_number names c) ≡ true))
 

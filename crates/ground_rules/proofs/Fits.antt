@@ -40,7 +40,7 @@ rule-agree w number u v r a sound ranked lower true is =
     let e = ap number (sound r.head a is) in
     all-agree w u v r.body (all_atoms-weaken (λ b. number b < number r.head) (λ b. u b ≡ v b) r.body (λ b below. lower b (omega (arith, e))) ranked)
 
--- two assignments that agree on lower atoms derive the same truth for a
+-- two assignments that agree on lower atoms derive the same truth value for a
 pub derived-agree : {A T : Type 0} (w : Situation A T) (number : A → ℕ) (u v : A → Bool) (rules : List (Rule A T)) (a : A) → ((x y : A) → w.same x y ≡ true → x ≡ y) → IsNumbering number rules → ((b : A) → number b < number a → u b ≡ v b) → derived w u rules a ≡ derived w v rules a
 derived-agree w number u v [] a sound ranked lower = refl
 derived-agree w number u v (r ∷ rs) a sound ranked lower =

@@ -47,7 +47,7 @@ all_rules g = g.rest ++ g.turn
 abbrev pub row_of : GameTables → List Bool → List ℕ → List Bool
 row_of g state joint = row_after (numbered state joint) (unset g.atoms) (all_rules g)
 
--- the tables are the description's
+-- the tables are those of the description
 pub record IsBuilt (d : Description) (table : NameTable) (rank : ℕ → ℕ) (g : GameTables) : Type 0 where
   pub heads' : table.heads ≡ heads d
   pub roles : table.roles ≡ role_names d

@@ -47,7 +47,7 @@ have-heads names (r ∷ rs) seen e =
 pub heads-there : (names : NameTable) (d : Description) → names.heads ≡ heads d → HaveHeads names d
 heads-there names d e = have-heads names d [] e
 
--- the first place of each member is its own index
+-- the first place of each member is its index
 abbrev pub AreOnce : {A : Type 0} → (A → A → Bool) → List A → Type 0
 AreOnce {A} same xs = (k : ℕ) (d : A) → k < length xs → place same xs (get_or xs k d) ≡ k
 

@@ -1,4 +1,4 @@
--- What holds for the heads of a description that was read.
+-- Properties of the heads of a description that was read.
 use Rattle.std.proofs.Common.{◌≡◌, ℕ, ◌≤◌, Bool, true, false, ◌&&◌, if◌then◌else◌, nat_le, List, [], ◌∷◌, map, Option, Some, None, option_map, refl, ap, ◌∙◌, arith, subst}
 use Rattle.std.specs.Prelude.{option_and_then}
 use Rattle.std.specs.List.{cons_option}
@@ -123,7 +123,7 @@ alone-head TerminalWord text xs a e = transported xs Terminal a (some-is _ _ e) 
 alone-head PlainWord text xs a e = let m = mapped-is _ (term_text (atom text)) (IsDerived a) e in transported xs (Other m.0) a m.2 tt
 alone-head w text xs a e = absurd cc
 
--- what holds for some expressions also holds for more of them
+-- if every term in xs is also in ys, `HeadFrom` for xs implies `HeadFrom` for ys
 more-known : (xs ys : Expressions) (a : Derived) → ((t : List ℕ) → is_term_in_any xs t ≡ true → is_term_in_any ys t ≡ true) → HeadFrom xs a → HeadFrom ys a
 more-known xs ys (Role r) f h = f r h
 more-known xs ys (Init t) f h = f t h

@@ -1,4 +1,4 @@
--- The tables of a loaded game pass the tests from which its laws follow.
+-- The tables of a loaded game pass the tests that imply the laws of the game.
 use Rattle.std.proofs.Common.{◌≡◌, ℕ, ◌+◌, ◌<◌, ◌≤◌, Bool, true, false, if◌then◌else◌, nat_eq, nat_le, bytes_eq, List, [], ◌∷◌, ◌++◌, length, map, Option, Some, None, refl, sym, ap, ◌∙◌, arith}
 use Rattle.std.proofs.lemmas.Bool.{false_from_ne_true, or_from}
 use Rattle.std.proofs.lemmas.Bool.Decides.{nat_tests, Decides-ltb}
@@ -44,7 +44,7 @@ distinct-terms names pick make terms n (a ∷ as') is stand inside = by-pick (pi
         and-both _ _ ((Decides-ltb (place bytes_eq terms s) (length terms)).1 inside.0)
         (and-both _ _ (not-false _ (no-term names pick make terms s n (n + 1) as' is (omega arith) stand.1 inside.0 at)) (rest inside.1))
 
--- what holds for a head that was read from these expressions
+-- the properties of a head that was read from these expressions: its term is in them, and its goal value is at most max_goal
 abbrev pub HeadFrom : Expressions → Derived → Type 0
 HeadFrom xs (Role r) = is_term_in_any xs r ≡ true
 HeadFrom xs (Init t) = is_term_in_any xs t ≡ true

@@ -1,4 +1,4 @@
--- What the tables of a game say, according to the fit.
+-- The tables of a game select the terms whose heads are true in the fit.
 use Rattle.std.proofs.Common.{◌≡◌, ◌≢◌, ℕ, zero, suc, ◌+◌, ◌<◌, ◌≤◌, Bool, true, false, ◌&&◌, ◌||◌, if◌then◌else◌, nat_eq, bytes_eq, List, [], ◌∷◌, ◌++◌, length, get_or, set, map, filter, Option, Some, None, refl, sym, ap, ◌∙◌, arith, length-set, get_or-set_other}
 use mathlib.Core.Bool.{or-false, or-true, or_assoc}
 use Rattle.std.proofs.lemmas.Grind.{get_or-set_at}
@@ -54,7 +54,7 @@ past-bit (b ∷ bs) (suc k) le = past-bit bs k (omega (arith, le))
 pub marked-bit : (n : ℕ) (row : List Bool) (ms : List Mention) (k : ℕ) → k < n → bit (marked (unset n) row ms) k ≡ hits row ms k
 marked-bit n row ms k lt = marked-hits (unset n) row ms k (omega (arith, length-replicate n false, lt)) ∙ ap (λ b. b || hits row ms k) (unset-bit n k)
 
--- the place of each head, from this number, is its number
+-- the numbers of the heads are consecutive, beginning with n
 abbrev pub StandFrom : NameTable → ℕ → List Derived → Type 0
 StandFrom names n [] = Unit {0}
 StandFrom names n (a ∷ as') = (atom_number names a ≡ n) × StandFrom names (n + 1) as'

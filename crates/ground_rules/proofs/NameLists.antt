@@ -40,7 +40,7 @@ neither : (xs : List (List ℕ)) (n x : List ℕ) → is_among xs x ≡ false �
 neither [] n x h ne = rw ne refl
 neither (y ∷ ys) n x h ne = rw (or-false-left (bytes_eq y x) _ h) (neither ys n x (or-false-right (bytes_eq y x) _ h) ne)
 
--- a new name
+-- adding a new name to a list of different names gives a list of different names
 pub not-repeated : (xs : List (List ℕ)) (n : List ℕ) → are_different xs ≡ true → list_any (bytes_eq n) xs ≡ false → are_different (xs ++ n ∷ []) ≡ true
 not-repeated [] n h new = refl
 not-repeated (x ∷ xs) n h new =

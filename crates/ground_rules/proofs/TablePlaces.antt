@@ -68,7 +68,7 @@ unwrapped : (n m : ℕ) → n < suc m → (b : Bool) → nat_lt n m ≡ b → un
 unwrapped n m le true is = refl
 unwrapped n m le false is = grind (arith, nat_tests)
 
--- a look-up finds the first place, or the length
+-- a lookup finds the first place of the name, or the length of the list if the name is not in it
 pub place-found : {A : Type 0} (p : A → Bool) (same : A → A → Bool) (x : A) (xs : List A) → ((y : A) → p y ≡ same x y) → unwrap_or (position p xs) (length xs) ≡ place same xs x
 place-found p same x xs tests =
     let e = prefix-place p same x xs tests in

@@ -24,7 +24,7 @@ use Rattle.ground_rules.proofs.HeadTables.{heads-there}
 use Rattle.ground_rules.proofs.Dependences.{exposed-ranked, set-depends}
 use Rattle.ground_rules.proofs.RankedRules.{dependence-of}
 
--- no rule whose head is not set contains, once exposed, an atom that is set
+-- if the head of a rule is not set, no literal of its exposed body is true
 abbrev pub AreClosed : (ℕ → Bool) → List (Rule ℕ ℕ) → Type 0
 AreClosed on [] = Unit {0}
 AreClosed on (r ∷ rs) = (on r.head ≡ false → any_true (numbered [] []) on (all_exposed false r.body) ≡ false) × AreClosed on rs
@@ -40,7 +40,7 @@ closed on (r ∷ rs) f = (
   closed on rs (λ a off. or-false-right _ (derived (numbered [] []) on (exposed_rules false rs) a) (f a off)),
 )
 
--- what a literal contains if exposing it gives nothing true
+-- if the exposed literal is false, none of its atoms is set
 mutual
   off-atoms : (on : ℕ → Bool) (l : Literal ℕ ℕ) → truth (numbered [] []) on (exposed false l) ≡ false → AtomsAre (λ a. on a ≡ false) l
   off-atoms on (Holds a) h = h
@@ -166,7 +166,7 @@ answer-off d t row (Init u) free set is = absurd is
 answer-off d t row (Next u) free set is = absurd is
 answer-off d t row (Other u) free set is = absurd is
 
--- the rules whose heads are not set in the row of dependence, and those whose heads are
+-- splitting the rules by the row of dependence gives the two parts
 split-of : (d : Description) (t : NameTable) (rules : List (Rule ℕ ℕ)) (atoms : ℕ) (row : List Bool) → IsTableOf d t → IsAcyclic d → ¬ (HasBarredHead d) → AreRankedOf d t rules → atoms ≡ length t.heads → row ≡ row_after (numbered [] []) (unset atoms) (exposed_rules false rules)
     → AreSplitOf d t (filter (λ r. not (bit row r.head)) rules) (filter (λ r. bit row r.head) rules)
 split-of d t rules atoms row table acyclic free ranked size is =

@@ -1,4 +1,4 @@
--- The answers of a loaded game, computed from its tables, whatever form the tables have.
+-- The answers of a loaded game, computed from its tables in whatever form they are stored.
 use Rattle.std.specs.Prelude.{ℕ, ◌≡◌, ◌<◌, Bool, List, [], map, slice_index_or, length}
 use Rattle.game_core.specs.Play.{Rules}
 use Rattle.ground_rules.specs.declared.tables.Mention.{Mention}

@@ -25,7 +25,7 @@ fn load_folded(
 }
 
 /// Makes the game of a ground description: facts and rules of GDL without variables, in upper or lower case, within the
-/// usual limits. Sentences are numbered from 0. `LoadFault` says in which order errors are found.
+/// usual limits. Sentences are numbered from 0. `LoadFault` documents the order in which errors are found.
 pub fn load(alloc: Global, sentences: &[Expr]) -> Result<GroundGame, LoadFault>
     ensures { IsLoadAnswer (map folded (map expression sentences.now)) result }
 {
@@ -33,7 +33,7 @@ pub fn load(alloc: Global, sentences: &[Expr]) -> Result<GroundGame, LoadFault>
     load_folded(alloc, Limits::Usual, description)
 }
 
-/// Does what `load` does, within these limits. The game keeps these sentences, whereas `load` copies them.
+/// Like `load`, but within these limits. The game takes ownership of the sentences, whereas `load` copies them.
 pub fn load_within(
     alloc: Global,
     limits: Limits,

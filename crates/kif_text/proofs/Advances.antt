@@ -7,12 +7,12 @@ use Rattle.game_core.specs.Expression.{list, none}
 use Rattle.kif_text.specs.Machine.{Open, State, and_last, ◌>>=◌, with_word, flushed, close_on, act, step}
 use Rattle.kif_text.specs.declared.fault.KifFault.{KifFault}
 
--- which branch of an `if` gives the value
+-- the branch of an `if` that gives the value
 pub chosen : {A : Type 0} (b : Bool) (x y z : A) → cond b x y ≡ z → ((b ≡ true) × (x ≡ z)) ⊎ ((b ≡ false) × (y ≡ z))
 chosen true x y z e = inl (refl, e)
 chosen false x y z e = inr (refl, e)
 
--- if a chain succeeds, so does its first part
+-- if a chain succeeds, its first part succeeds
 pub bind_ok : {A B : Type 0} (r : Result A KifFault) (f : A → Result B KifFault) (y : B) → (r >>= f) ≡ Ok y → (x : A) × (r ≡ Ok x) × (f x ≡ Ok y)
 bind_ok (Ok x) f y e = (x, refl, e)
 bind_ok (Err d) f y e = absurd cc

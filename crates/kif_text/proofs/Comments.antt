@@ -1,4 +1,4 @@
--- The bare text has a space for each byte of a comment, and the text's own bytes elsewhere.
+-- The bare text has a space for each byte of a comment, and the bytes of the text elsewhere.
 use Rattle.std.proofs.Common.{◌≡◌, ◌≢◌, ℕ, zero, suc, ◌<◌, ◌≤◌, List, [], ◌∷◌, length, get_or, Bool, true, false, not, ◌||◌, ◌==◌, cond, refl, sym, ap, subst, ◌∙◌, ◌⊎◌, inl, inr, arith}
 use Rattle.std.proofs.lemmas.Bool.{eqb-true, ne_eqb, eq-eqb, and_parts, and_from, true≢false}
 use Rattle.game_core.specs.Bytes.{line_feed, space, semicolon}

@@ -1,10 +1,10 @@
--- What the reader accepts nests no deeper than the limit.
+-- The expressions that the reader accepts are nested no deeper than the limit.
 use Rattle.std.proofs.Common.{◌≡◌, ℕ, suc, ◌+◌, ◌≤◌, max, List, [], ◌∷◌, length, Ok, sym, subst, arith}
 use Rattle.game_core.specs.Expression.{Expression, atom, list, Expressions, none, more, depth, depth_all}
 use Rattle.kif_text.specs.Machine.{Open, State, start, and_last, with_word, step, run, finish_on, finish, read}
 use Rattle.kif_text.proofs.Advances.{Advance, in_comment, in_word, begins_comment, opens, closes, is_space, advance, bind_ok, ok_is}
 
--- what has been read at each level nests no deeper than the limit allows there
+-- the expressions read at each level are nested no deeper than the limit allows at that level
 abbrev Nests : ℕ → List Open → Expressions → Type 0
 Nests limit [] here = depth_all here ≤ limit
 Nests limit (l ∷ ls) here = (depth_all here + suc (length ls) ≤ limit) × Nests limit ls l.before

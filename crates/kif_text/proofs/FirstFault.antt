@@ -1,4 +1,4 @@
--- The error at which the reader stops is the text's first one.
+-- The reader stops at the first error of the text.
 use Rattle.std.proofs.Common.{◌≡◌, ℕ, zero, suc, ◌+◌, ◌<◌, ◌≤◌, List, [], ◌∷◌, length, drop, get_or, Bool, true, false, not, ◌||◌, ◌==◌, nat_le, cond, Result, Ok, Err, refl, sym, ap, subst, ◌∙◌, ◌⊎◌, inl, inr, add-one, arith}
 use Rattle.std.proofs.lemmas.List.Sums.{count_by_more_no, count_by_more_yes}
 use Rattle.std.proofs.lemmas.Bool.{eqb-true, eqb-false, ne_eqb, eq-eqb, cases_lt, true≢false}
@@ -11,12 +11,12 @@ use Rattle.kif_text.specs.declared.fault.KifFault.{KifFault}
 use Rattle.kif_text.specs.declared.fault.KifFault.TheVariants.{BadByte, Unopened, TooDeep, Unclosed, Nothing, More, TooLong, Memory}
 use Rattle.kif_text.proofs.Advances.{Advance, in_comment, in_word, begins_comment, opens, closes, is_space, advance, bind_ok, chosen, good, bad, ok_is}
 
--- for each open list, innermost first: its parenthesis, and that the level has stayed above the one before it
+-- for each open list, innermost first: its parenthesis is at its offset, and the level has stayed above the level at that offset since then
 abbrev pub Opened : List ℕ → ℕ → List Open → Type 0
 Opened t i [] = Unit {0}
 Opened t i (l ∷ ls) = (l.at < i) × (get_or t l.at 0 ≡ left_parenthesis) × (level t l.at ≡ length ls) × ((j : ℕ) → l.at < j → j ≤ i → length ls < level t j) × Opened t i ls
 
--- what holds after i bytes with these open lists: the level, and that there is no error so far
+-- after i bytes with these open lists, the level is the number of open lists, and there is no error so far
 pub record Knows (one : Bool) (t : List ℕ) (i : ℕ) (ls : List Open) : Type 0 where
   pub count : opened t i ≡ closed t i + length ls
   pub few : length ls ≤ max_depth
@@ -36,7 +36,7 @@ lists_more t i (l ∷ ls) h le = (
   lists_more t i ls h.4 (omega arith),
 )
 
--- there is no error at an offset whose byte is allowed there
+-- if the byte at an offset is allowed there, there is no error at that offset
 not_here : (one : Bool) (t : List ℕ) (i : ℕ) (e : KifFault) → is_known (get_or t i 0) ≡ true → (get_or t i 0 ≡ right_parenthesis → 0 < level t i) → (get_or t i 0 ≡ left_parenthesis → level t i < max_depth) → ((k : ℕ) → StandsAt one t (More k) i → ⊥) → StandsAt one t e i → ⊥
 not_here one t i (BadByte k) known up down m h = true≢false (sym known ∙ subst (λ (x : ℕ). is_known (get_or t x 0) ≡ false) h.0 h.2)
 not_here one t i (Unopened k) known up down m h =
@@ -296,7 +296,7 @@ fault_of limit text (More i) le h = (le, h)
 fault_of limit text TooLong le h = absurd h.1
 fault_of limit text Memory le h = le
 
--- if a text is refused, it has that error
+-- if the reader refuses a text with an error, the text has that error
 pub read_fails : (limit : ℕ) (text : List ℕ) (e : KifFault) → length text ≤ limit → read max_depth text ≡ Err e → IsFaultUpTo limit false text e
 read_fails limit text e le h =
     elim (bind_err (run (step max_depth) start 0 text) finish e h) [

@@ -1,4 +1,4 @@
--- Folding a text, folding a proper expression, and folding twice.
+-- Converting a text or a proper expression to lower case, and converting twice.
 use Rattle.std.proofs.Common.{◌≡◌, ℕ, suc, ◌+◌, map, List, [], ◌∷◌, ◌++◌, Bool, true, false, nat_le, cond, ◌&&◌, refl, sym, ap, ◌∙◌, arith}
 use Rattle.std.proofs.lemmas.List.{map-append, length-map}
 use Rattle.std.proofs.lemmas.Bool.Decides.{nat_tests}

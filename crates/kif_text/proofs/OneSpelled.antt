@@ -1,4 +1,4 @@
--- A text that spells one expression is not refused, and any other text is.
+-- A text that spells one expression is not refused. Any other text is refused.
 use Rattle.std.proofs.Common.{◌≡◌, ℕ, zero, suc, ◌+◌, ◌≤◌, List, [], ◌∷◌, length, drop, get_or, Bool, true, false, not, ◌==◌, cond, Result, Ok, Err, refl, sym, ap, subst, ◌∙◌, ◌⊎◌, inl, inr, add-one, arith}
 use Rattle.std.proofs.lemmas.Bool.{cases_lt}
 use Rattle.game_core.specs.Bytes.{space, is_atom_byte}
@@ -55,7 +55,7 @@ started_le t i (suc j) le =
 twice : (t : List ℕ) (i : ℕ) → starts t i ≡ true → started t (suc i) ≡ suc (started t i)
 twice t i h = ap (λ (v : Bool). cond v 1 0 + started t i) h ∙ omega arith
 
--- a text that has no first error, and that holds one expression, has no error
+-- a text without a first error that has exactly one expression has no error
 clash : (text : List ℕ) (e : KifFault) → length text ≤ max_length → (e ≡ Memory → ⊥) → IsClear false (bare text) (length (bare text)) → level (bare text) (length (bare text)) ≡ 0 → started (bare text) (length (bare text)) ≡ 1 → IsFault true text e → ⊥
 clash text (BadByte i) le wanted clear flat n h = clear (BadByte i) h.1.0 (omega (arith, h.1.1.0, h.1.1.1)) h.1.1
 clash text (Unopened i) le wanted clear flat n h = clear (Unopened i) h.1.0 (within (bare text) i h.1.0 h.1.1.0 h.1.1.1 (omega arith)) h.1.1

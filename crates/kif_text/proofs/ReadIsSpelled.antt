@@ -1,4 +1,4 @@
--- A text spells what the reader accepts.
+-- A text spells the expressions that the reader returns for it.
 use Rattle.std.proofs.Common.{◌≡◌, ◌≢◌, ℕ, suc, ◌<◌, List, [], ◌∷◌, ◌++◌, length, Bool, true, false, not, ◌==◌, Ok, refl, sym, ap, subst, ◌∙◌, append_assoc, arith}
 use Rattle.std.proofs.lemmas.List.{append-nil}
 use Rattle.std.proofs.lemmas.Bool.{eqb-true, eqb-false}
@@ -20,7 +20,7 @@ pub join_last : (xs : Expressions) (y : Expression) (ys : Expressions) → join 
 join_last none y ys = refl
 join_last (more x xs) y ys = ap (more x) (join_last xs y ys)
 
--- With these lists open, and these expressions read at the innermost level, the rest of the text completes all.
+-- With these lists open and the expressions `here` read at the innermost level, the rest of the text completes the expressions `all`.
 abbrev pub Completes : List Open → Expressions → List ℕ → Expressions → Type 0
 Completes [] here rest all = (ys : Expressions) × SpellsText rest ys × (all ≡ join here ys)
 Completes (l ∷ ls) here rest all = (inner after : List ℕ) × (ys : Expressions) × (rest ≡ inner ++ right_parenthesis ∷ after) × Spells inner ys × Completes ls (and_last l.before (list (join here ys))) after all
@@ -113,7 +113,7 @@ end_completes [] here word p all true pends h =
     let same : with_word here word ≡ here = ap (with_word here) pends.0 in
     (none, subst (λ (q : List ℕ). SpellsText q none) (sym pends.2) (tail_alone pends.1 pends.3), sym (ok_is _ _ h) ∙ same ∙ sym (join_none here))
 
--- from the state t, the rest of the text completes all
+-- from the state t, the rest of the text completes the expressions `all`
 abbrev pub Goes : State → List ℕ → Expressions → Type 0
 Goes t bs all = (q : List ℕ) → Pending t.comment t.word q → Completes t.levels t.here (q ++ bs) all
 
@@ -154,7 +154,7 @@ advanced limit s t i b bs p all (is_space c a w e) pends ih =
     let go = subst (λ (u : State). Goes u bs all) e ih in
     settled s p (b ∷ bs) all c pends a (white_completes s.levels (with_word s.here s.word) b bs all w (go [] (subst (λ (v : Bool). Pending v [] []) (sym c) (refl, tt))))
 
--- the result of the run is what the pending bytes and the rest of the text spell
+-- the pending bytes and the rest of the text spell the result of the run
 run_found : (bs : List ℕ) (limit : ℕ) (s : State) (i : ℕ) (p : List ℕ) (all : Expressions) → Pending s.comment s.word p → (run (step limit) s i bs >>= finish) ≡ Ok all → Completes s.levels s.here (p ++ bs) all
 unfolding run
 run_found [] limit s i p all pends h =

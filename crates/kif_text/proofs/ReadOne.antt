@@ -1,4 +1,4 @@
--- Which texts the reader of one expression accepts, and the error with which it refuses the others.
+-- The texts that the reader of one expression accepts, and the errors that it reports for all other texts.
 use Rattle.std.proofs.Common.{◌≡◌, ℕ, suc, ◌+◌, ◌<◌, ◌≤◌, List, [], ◌∷◌, length, drop, get_or, Bool, true, false, Ok, Err, refl, sym, ap, subst, ◌∙◌, inl, inr, add-one, arith}
 use Rattle.game_core.specs.Expression.{Expression, Expressions, none, more, depth, max_depth}
 use Rattle.kif_text.specs.Spelling.{SpellsText, max_length}
@@ -13,7 +13,7 @@ use Rattle.kif_text.proofs.Depth.{read_nests}
 use Rattle.kif_text.proofs.FirstFault.{Knows, shown, knows_advance, step_fails, knows_none, drop_head, drop_none, bind_err, open_ends, length_bare, err_is, ok_not_err}
 use Rattle.kif_text.proofs.Starts.{KnowsOne, starts_is, second_is, first_is, one_advance}
 
--- if a step of this reader succeeds, the same step of the other reader does
+-- if a step of this reader succeeds, the same step of the reader of any number of expressions succeeds
 plain : (limit : ℕ) (s : State) (i b : ℕ) (t : State) → one_step limit s i b ≡ Ok t → (is_second s b ≡ false) × (step limit s i b ≡ Ok t)
 plain limit s i b t h =
     elim (chosen (is_second s b) _ _ _ h) [
@@ -119,7 +119,7 @@ none_last none e h = (let same : Nothing ≡ e = cc in sym same, refl)
 none_last (more x none) e h = absurd cc
 none_last (more x (more y ys)) e h = absurd (not_none (none_last (more y ys) e h))
 
--- if a text is refused, it has that error
+-- if the reader refuses a text with an error, the text has that error
 pub single_fault : (text : List ℕ) (e : KifFault) → length text ≤ max_length → read_single text ≡ Err e → IsFault true text e
 single_fault text e le h =
     let t = bare text in

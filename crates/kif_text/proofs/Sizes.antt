@@ -1,4 +1,4 @@
--- The atoms of what a text spells, and the length of its canonical text.
+-- The atoms of the expressions that a text spells, and the length of their canonical text.
 use Rattle.std.proofs.Common.{ℕ, ◌*◌, ◌≤◌, List, [], ◌∷◌, ◌++◌, length, ap, arith}
 use Rattle.std.proofs.lemmas.List.{length-append}
 use Rattle.game_core.specs.Bytes.{line_feed, right_parenthesis}

@@ -1,4 +1,4 @@
--- How many expressions have begun outside all lists: in the text, and in the reader.
+-- The number of expressions that have begun outside all lists, counted in the text and in the reader.
 use Rattle.std.proofs.Common.{◌≡◌, ℕ, suc, ◌+◌, ◌<◌, ◌≤◌, List, [], ◌∷◌, ◌++◌, length, get_or, Bool, true, false, not, ◌&&◌, ◌||◌, ◌==◌, cond, refl, sym, ap, subst, ◌∙◌, arith}
 use Rattle.std.proofs.lemmas.Bool.{eqb-true, ne_eqb, eq-eqb, true≢false, and_parts}
 use Rattle.std.proofs.lemmas.List.{length-append}

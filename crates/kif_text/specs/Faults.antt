@@ -1,4 +1,4 @@
--- Which error a text has: the one with the lowest offset, or else one at the end.
+-- The error of a text: the one with the lowest offset, or else one at the end.
 use Rattle.std.specs.Prelude.{◌≡◌, ℕ, zero, suc, ◌+◌, ◌-◌, ◌<◌, ◌≤◌, List, [], ◌∷◌, length, take, slice_index, count_by, Bool, true, false, not, ◌&&◌, ◌||◌, ◌==◌, if◌then◌else◌}
 use Rattle.game_core.specs.Bytes.{is_white, is_atom_byte, line_feed, space, semicolon, left_parenthesis, right_parenthesis}
 use Rattle.game_core.specs.Expression.{max_depth}

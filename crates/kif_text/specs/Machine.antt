@@ -11,7 +11,7 @@ pub record Open : Type 0 where
   pub before : Expressions
   pub at : ℕ
 
--- What has been read: the open lists, innermost first, the expressions at the innermost level, the bytes of an unfinished atom, and
+-- What has been read so far: the open lists, innermost first, the expressions at the innermost level, the bytes of an unfinished atom, and
 -- whether a comment is unfinished.
 pub record State : Type 0 where
   pub levels : List Open

@@ -36,7 +36,7 @@ pub fn one_fault_at_most()
     ensures { OneFaultAtMost }
 {}
 
-/// The bare text, which offsets refer to, is the text with a space for each byte of a comment.
+/// The bare text is the text with a space in place of each byte of a comment. Offsets refer to the bare text.
 pub fn bare_hides_comments()
     ensures { BareHidesComments }
 {}
@@ -62,7 +62,7 @@ pub fn reading_is_spelling()
     ensures { ReadingIsSpelling }
 {}
 
-/// The reading of a text is proper, and so is the reading in lower case.
+/// The reading of a text is proper, and it is still proper in lower case.
 pub fn reading_is_proper()
     ensures { ReadingIsProper }
 {}
@@ -77,7 +77,7 @@ pub fn canonical_reads_back()
     ensures { CanonicalReadsBack }
 {}
 
-/// Reading a lower-case text gives the expression in lower case that has this canonical text, if the text is not too long.
+/// Reading a lower-case text gives the lower-case expression that has this canonical text, if the text is not too long.
 pub fn folded_text_reads_back()
     ensures { FoldedTextReadsBack }
 {}

@@ -22,7 +22,7 @@ read_from text x e = step (nat_le (length text) max_answer) refl (reading text) 
     step true short (Some y) read e = (within text short, y, read, cc)
     step false long o read e = absurd cc
 
--- a reading is a folded text, at most twice as long as the longest answer
+-- a reading is a lower-case text, at most twice as long as the longest answer
 pub readings_are_folded : ReadingIsProper → ReadingUnderDouble → ReadingsAreFolded
 readings_are_folded proper under text x e =
     let from = read_from text x e in

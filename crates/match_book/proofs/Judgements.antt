@@ -1,4 +1,4 @@
--- What holds for a judgement.
+-- Properties of judgements.
 use Rattle.std.proofs.Common.{◌≡◌, ◌≢◌, ℕ, zero, suc, ◌<◌, Bool, true, false, Option, Some, None, List, [], ◌∷◌, length, slice_index_or, refl, arith, ap, sym, subst, inl, inr, Contains}
 use Rattle.std.proofs.lemmas.Slice.Eq.{bytes_eq-Decides}
 use Rattle.std.specs.Prelude.{IsSome, slice_get, bytes_eq, if◌then◌else◌, ◌==◌}

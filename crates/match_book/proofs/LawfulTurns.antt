@@ -1,4 +1,4 @@
--- What holds for lawful turns.
+-- Properties of lawful turns.
 use Rattle.std.proofs.Common.{◌≡◌, Bool, false, ℕ, zero, suc, ◌*◌, ◌<◌, ◌≤◌, List, [], ◌∷◌, ◌++◌, length, take, slice_index_or, refl, arith, ap, sym, ◌∙◌, subst, inl, inr, length-append, add-one}
 use Rattle.std.proofs.lemmas.List.{map-append, take-append-le, take_all, take_more, get_or_append_left}
 use Rattle.std.proofs.lemmas.List.Sums.{count_by-le-length, sum_by-le}

@@ -1,4 +1,4 @@
--- A match comes to an end, round by round.
+-- A match ends after a bounded number of rounds.
 use Rattle.std.proofs.Common.{◌≡◌, ◌≢◌, ℕ, zero, suc, ◌+◌, ◌-◌, ◌<◌, ◌≤◌, Bool, true, false, Option, Some, None, List, [], ◌∷◌, ◌++◌, length, set, refl, arith, ap, sym, ◌∙◌, subst, inl, inr, length-append}
 use Rattle.std.specs.Prelude.{◌⊎◌, is_none, is_some, if◌then◌else◌}
 use Rattle.game_core.specs.Play.{Rules, IsLawful}
@@ -285,7 +285,7 @@ module _ {S M : Type 0} (g : Rules S M) (laws : IsLawful g) (folded : ReadingsAr
       step Stopping is = subst (λ (x : Stage). every_role g.roles (answered_in x m) ≡ false) (sym is) (not_all_ended Stopping (all_ended g m) refl (going_at Stopping is))
       step (Aborting c) is = subst (λ (x : Stage). every_role g.roles (answered_in x m) ≡ false) (sym is) (not_all_ended (Aborting c) (all_ended g m) refl (going_at (Aborting c) is))
 
-  -- a role that has answered what it owed
+  -- the match after the role has answered the message that was due
   due_step : (m n : MatchValue M) (r : ℕ) → IsLawfulMatch g m → r < g.roles → is_over g m ≡ false → IsAfterDue g m r (due g m r) n → GoesOn g m n r
   due_step m n r lawful lt going is = step (has_answered g m r) refl
     where
@@ -299,7 +299,7 @@ module _ {S M : Type 0} (g : Rules S M) (laws : IsLawful g) (folded : ReadingsAr
       step true has = subst (λ (x : MatchValue M). GoesOn g m x r) (sym (in_round true has)) (stays_open m r going has)
       step false has = let said = in_round false has in subst (λ (x : MatchValue M). GoesOn g m x r) (sym said.1) (round_step m r (round g m) said.0 lawful lt refl going)
 
-  -- what holds for the match, and after any answer of the role, also holds after the role has answered what it owed
+  -- a property of the match that also holds after any answer of the role holds after the role has answered the message that was due
   after_due : (P : MatchValue M → Type 0) (m n : MatchValue M) (r : ℕ) → P m → ((round : ℕ) (answer : Answer) → P (after_answer g m r round answer)) → (d : Due) → IsAfterDue g m r d n → P n
   after_due P m n r here answered (Owe round owed) is = subst P (sym is.1) (answered round is.0)
   after_due P m n r here answered (Hold round) is = subst P (sym is) here

@@ -22,7 +22,7 @@ use Rattle.desk_calls.specs.declared.phase.Phase.TheVariants.{Playing, Aborting}
 use Rattle.desk_calls.specs.declared.due.Owed.TheVariants.{Start, Play, Stop, Abort}
 use Rattle.desk_calls.specs.declared.due.Due.TheVariants.{Owe, Hold}
 
--- the match after these answers, each with its role, for the round at that time
+-- the match after these answers, each with its role; each answer is for the round that is open at that time
 abbrev pub after_answers : {S M : Type 0} → Rules S M → MatchValue M → List (ℕ × Answer) → MatchValue M
 after_answers g m [] = m
 after_answers g m (a ∷ later) = after_answers g (after_answer g m a.0 (round g m) a.1) later

@@ -47,7 +47,7 @@ abbrev pub IsPlaceOf : {S M : Type 0} → Rules S M → List M → List ℕ → 
 IsPlaceOf g moves x None = NamesNone g moves x
 IsPlaceOf g moves x (Some p) = (p < length moves) × HoldsAt (λ m. g.move_text m ≡ x) moves p × AllWithin (λ m. g.move_text m ≢ x) moves 0 p
 
--- takes the move that is named, or else the first one
+-- takes the move that the answer names, or, if it names none, the first of these moves with the error that the answer x is illegal
 abbrev pub taken_or_substituted : {M : Type 0} → List M → List ℕ → Option M → Option (Judgement M)
 taken_or_substituted moves x (Some m) = Some (record { taken = m; error = [] })
 taken_or_substituted moves x None = substitute moves (Illegal x)

@@ -1,4 +1,4 @@
--- What holds for every match of a game.
+-- Lawful turns and matches: the properties of every match of a game.
 use Rattle.std.specs.Prelude.{◌≡◌, ℕ, ◌<◌, ◌≤◌, true, false, List, [], length, take, Some, slice_index_or}
 use Rattle.game_core.specs.Play.{Rules, IsJoint}
 use Rattle.match_book.specs.Roles.{every_role, at_role, is_there, blank}
@@ -22,7 +22,7 @@ pub record IsLawfulTurn {S M : Type 0} (g : Rules S M) (strikes : ℕ) (before :
 abbrev pub AreLawful : {S M : Type 0} → Rules S M → ℕ → List (Turn M) → Type 0
 AreLawful {S} {M} g strikes turns = (k : ℕ) (d : Turn M) → k < length turns → IsLawfulTurn g strikes (take k turns) (slice_index_or turns k d)
 
--- what holds for a match after any answers and aborts
+-- the properties that a match keeps through any answers and aborts
 pub record IsLawfulMatch {S M : Type 0} (g : Rules S M) (m : MatchValue M) : Type 0 where
   -- each role has one player, and one index in each list
   pub one_player : length m.setup.players ≡ g.roles

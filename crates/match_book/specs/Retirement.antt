@@ -1,4 +1,4 @@
--- Which roles are retired because too many of their moves in a row were replaced.
+-- The roles that are retired because too many of their moves in a row were replaced.
 use Rattle.std.specs.Prelude.{ℕ, zero, suc, ◌==◌, Bool, true, false, if◌then◌else◌, List, [], ◌∷◌, slice_index_or}
 use Rattle.match_book.specs.MatchValue.{MatchValue, is_error}
 use Rattle.match_book.specs.Roles.{every_role}

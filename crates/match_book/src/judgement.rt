@@ -122,8 +122,8 @@ fn judge_reading<G: Game>(
     }
 }
 
-/// Judges an answer with this text. Most answers are the canonical text of a legal move. So this first compares the text
-/// with the legal moves, and reads it only if none of them matches.
+/// Judges an answer with this text. Most answers are the canonical text of a legal move. So the function first compares
+/// the text with the legal moves, and reads it only if no move matches.
 fn judge_text<G: Game>(
     alloc: Global,
     game: &G,

@@ -34,7 +34,7 @@ use std::snapshot::Snapshot;
 /// A match: the answers so far, and values computed from them, so that no call iterates over all turns.
 ///
 /// Contracts see a match as its value and its game. The caller keeps the game, and passes it to each call that needs it.
-/// Every match is lawful, as the contract of `state` says.
+/// Every match is lawful, as the contract of `state` states.
 #[derive(Drop)]
 pub struct Match<G: Game> {
     game: Snapshot<G>,
@@ -174,7 +174,7 @@ impl<G: Game> Match<G> {
         &self.state
     }
 
-    /// The state after the first `turns` recorded turns. The match stores this state, and replays nothing.
+    /// The state after the first `turns` recorded turns. The match stores this state, so nothing is replayed.
     pub fn state_after(&self, turns: usize) -> &G::State
         requires { turns ≤ length self.now.value.turns }
         ensures state { result.now ≡ state_after (G.rules self.now.game) (take turns self.now.value.turns) }

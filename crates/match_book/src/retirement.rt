@@ -1,4 +1,4 @@
-//! Which roles are retired because too many of their moves in a row were replaced.
+//! The roles that are retired because too many of their moves in a row were replaced.
 ghost use Rattle.std.specs.Prelude.{◌≡◌, ◌==◌, ◌<◌, ◌≤◌, ℕ, All, IfOk, length, replicate, slice_index_or, []};
 ghost use Rattle.match_book.specs.MatchValue.{is_error};
 ghost use Rattle.match_book.specs.Phase.{max_turns};

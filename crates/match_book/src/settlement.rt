@@ -13,7 +13,7 @@ use std::alloc::{AllocError, Global};
 /// The largest number of turns of a match.
 pub const MAX_TURNS: usize = 10_000;
 
-/// What a match does in a state. If it plays on, `legal` has each role's legal moves. If it stops, `goals` has each role's
+/// What a match does in a state. If it continues, `legal` has each role's legal moves. If it stops, `goals` has each role's
 /// goal.
 #[derive(Drop)]
 pub struct Settlement<M> {

@@ -270,7 +270,7 @@ module _ {S M : Type 0} (g : Rules S M) (laws : MatchLaws g) (m : MatchValue M) 
           t : Turn M
           t = turn_of (parts g (record m { open_answers = set m.open_answers role (Some j) }))
 
-          -- a retired role has no open answer, and no answer of it was taken
+          -- a retired role has no open answer, and none of its answers was taken
           retired-none : (r : ℕ) → r < g.roles → is_retired m r ≡ true → new r (length m.turns + 1) ≡ []
           retired-none r within out =
               let other : r ≢ role = λ e. let w : false ≡ true = sym (ap not (subst (λ (k : ℕ). is_retired m k ≡ true) e out)) ∙ unanswered.0 in cc in

@@ -14,7 +14,7 @@ use Rattle.match_desk.specs.Steps.{changed_match, with_change}
 use Rattle.match_desk.specs.declared.slot.Slot.{Slot}
 use Rattle.match_desk.proofs.Managers.{IsKeptBy, lawful-with_change}
 
--- a look-up in the index finds the same match as the search in the list
+-- a lookup in the index finds the same match as the search in the list
 pub lookup-find : {G S M : Type 0} (games : List G) (id : List ℕ) (entries : List (Vec ℕ Global × Slot G S M)) → All (IsSlotOf games) entries
     → option_map desk_match (lookup (λ key. bytes_eq id key.items) entries) ≡ find (has_id id) (desk_matches entries)
 lookup-find games id [] slots = refl
@@ -28,7 +28,7 @@ lookup-find {G} {S} {M} games id (e ∷ es) slots =
     step false true same rest later so = absurd cc
     step false false same rest later so = so
 
--- the game of a match that the look-up finds
+-- the game of a match that the lookup finds
 pub lookup-game : {G S M : Type 0} (games : List G) (id : List ℕ) (entries : List (Vec ℕ Global × Slot G S M)) → All (IsSlotOf games) entries → (s : Slot G S M)
     → lookup (λ key. bytes_eq id key.items) entries ≡ Some s → slice_get games s.game ≡ Some s.held.game
 lookup-game {G} {S} {M} games id entries slots s found =
@@ -66,7 +66,7 @@ module _ {G S M : Type 0} (games : List G) (entries : List (Vec ℕ Global × Sl
       step None = refl
       step (Some s) = refl
 
--- a match that the look-up finds has this id
+-- a match that the lookup finds has this id
 pub lookup-id : {G S M : Type 0} (games : List G) (id : List ℕ) (s : Slot G S M) (entries : List (Vec ℕ Global × Slot G S M)) → All (IsSlotOf games) entries
     → lookup (λ key. bytes_eq id key.items) entries ≡ Some s → bytes_eq id s.held.value.setup.id ≡ true
 lookup-id games id s [] slots found = absurd cc
@@ -94,7 +94,7 @@ map-others id h others (m ∷ ms) none =
     let tail : map h ms ≡ ms = map-others id h others ms (λ k d lt. none (suc k) d (omega arith)) in
     cc
 
--- a change that does not change matches with other ids
+-- a change that leaves matches with other ids as they are
 module _ {G S M : Type 0} (id : List ℕ) (h : DeskMatch M → DeskMatch M) (others : (m : DeskMatch M) → has_id id m ≡ false → h m ≡ m) where
   pub map-none : (games : List G) (entries : List (Vec ℕ Global × Slot G S M)) → All (IsSlotOf games) entries → lookup (λ key. bytes_eq id key.items) entries ≡ None → map h (desk_matches entries) ≡ desk_matches entries
   map-none games [] slots none = refl

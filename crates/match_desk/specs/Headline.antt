@@ -1,4 +1,4 @@
--- The main theorem on a closed desk of matches, both behind a lock and over rings.
+-- The main theorem about a closed desk of matches, both behind a lock and over rings.
 use Rattle.std.specs.Prelude.{◌≡◌, ℕ, List, length, sum, Some, All, slice_get}
 use Rattle.game_core.specs.Play.{Rules, AreLegal}
 use Rattle.match_book.specs.MatchValue.{joint_moves}

@@ -16,7 +16,7 @@ use std::sync::ledger::Ledger;
 /// Closes a desk of matches behind a lock if all its lines are given.
 ///
 /// One thread can replay the history of the closed desk: if a manager of the same games, without matches, gets these calls
-/// one by one, it gives every stored reply and becomes this manager. The history has as many calls as the lines made. Each
+/// one by one, it gives every stored reply and ends up equal to this manager. The history has as many calls as the lines made. Each
 /// match is lawful, and its recorded joint moves were legal; `Match::state` guarantees that the match's state is the game's
 /// state after these moves.
 ///
@@ -43,7 +43,7 @@ pub fn close_desk<G: Game, L: Ledger>(
 ///
 /// Everything that `close_desk` guarantees for a desk behind a lock also holds for this desk. In addition, each line's part
 /// of the history has exactly the calls that the line posted, and the replies that the line took are the first replies to
-/// its calls. The laws of `call_history` say that the ends of a desk's lines stay ends of its lines.
+/// its calls. The laws of `call_history` state that the ends of a desk's lines stay ends of its lines.
 pub fn close_rings<G: Game>(
     desk: RingDesk<Manager<G>>,
     ends: Vec<LineEnd<Manager<G>>>,

@@ -1,7 +1,8 @@
 //! The desk of all matches: a manager of many matches, with six calls that read and change them. The contract of each call
 //! states its reply and its effect, so a history of calls can be replayed on one thread.
 //!
-//! `close_desk` and `close_rings` state what holds for a manager that many threads shared, behind a lock or over rings.
+//! The contracts of `close_desk` and `close_rings` state the guarantees for a manager that many threads shared, behind a lock
+//! or over rings.
 #![tactic(auto)]
 
 mod asked_setup;

@@ -28,7 +28,7 @@ use Rattle.match_book.specs.declared.turn.Turn.{Turn}
 small_byte : (b : ℕ) → nat_lt b 128 ≡ true → b < 128
 small_byte b is = grind (arith, nat_tests)
 
--- for a given text, computing the test is enough
+-- for a fixed text, it is enough to compute the test
 tested : (bs : List ℕ) → list_all (λ b. nat_lt b 128) bs ≡ true → IsAscii bs
 tested [] is i = omega arith
 tested (b ∷ bs) is zero = small_byte b (and_parts (nat_lt b 128) (list_all (λ c. nat_lt c 128) bs) is).0

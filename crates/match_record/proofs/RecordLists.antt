@@ -30,7 +30,7 @@ goals-next n goal = ap (map whole_tree) (goals_from-more n goal) ∙ map-append 
 pub take-next : {A : Type 0} (xs : List A) (i : ℕ) (x : A) → slice_get xs i ≡ Some x → take (i + 1) xs ≡ take i xs ++ x ∷ []
 take-next xs i x at = take_more xs i x (slice_get_within xs i x at) ∙ ap (λ y. take i xs ++ y ∷ []) (get_or_from_slice_get xs i x x at)
 
--- What f makes of the first members of a list, for the turn with an index.
+-- The first r members of a turn's list, each converted by f, or None if there is no turn.
 abbrev pub part_of : {T A B : Type 0} → (T → List A) → (A → B) → ℕ → Option T → Option (List B)
 part_of part f r o = option_map (λ t. map f (take r (part t))) o
 

@@ -1,4 +1,4 @@
--- What is written of a record, member by member, and what reading it gives.
+-- Writing a record member by member, and reading it back.
 use Rattle.std.proofs.Common.{◌≡◌, ℕ, zero, suc, ◌+◌, ◌<◌, ◌≤◌, ◌^◌, true, Option, Some, None, Ok, List, [], ◌∷◌, ◌++◌, length, map, take, get_or, refl, sym, ap, ◌∙◌, subst, append_assoc, append-nil, arith, inl, inr}
 use Rattle.std.specs.Prelude.{option_map, option_and_then, slice_get, All, IfSome}
 use Rattle.std.specs.Str.{IsUtf8}

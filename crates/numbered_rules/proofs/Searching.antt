@@ -1,4 +1,4 @@
--- What the search keeps true.
+-- Each step of the search keeps its invariants true.
 use Rattle.std.proofs.Common.{ℕ, zero, suc, ◌<◌, ◌≤◌, ◌≡◌, ◌≢◌, ◌+◌, ◌-◌, List, [], ◌∷◌, ◌++◌, refl, ap, sym, ◌∙◌, arith, length, set, get_or, length-set, get_or-set_other, get_or-set_same, length-append, replicate}
 use Rattle.std.proofs.Common.{◌⊎◌, inl, inr, slice_index}
 use Rattle.std.proofs.lemmas.Bool.{cases_order, cases_eq, cases_lt}

@@ -5,7 +5,7 @@ use Rattle.std.specs.Prelude.{Bool, true, false, List, map}
 use Rattle.numbered_rules.specs.Literals.{Literal, Literals, Holds, InState, Does, Distinct, Not, Or, End, More, Rule}
 use Rattle.numbered_rules.specs.Numbered.{known}
 
--- the literal without its `not`; each `does` sentence counts as true, and so does each `true` sentence if of_state is set
+-- the literal without its `not`; each `does` sentence counts as true; if of_state is set, each `true` sentence also counts as true
 abbrev mutual
   pub exposed : {A T : Type 0} → Bool → Literal A T → Literal A T
   exposed of_state (Holds a) = Holds a

@@ -1,4 +1,4 @@
--- Which atoms the derived atoms of numbered rules need.
+-- The atoms that each derived atom of numbered rules needs.
 use Rattle.std.specs.Prelude.{ℕ, nat_lt, nat_eq, if◌then◌else◌, List, [], ◌∷◌, ◌++◌}
 use Rattle.numbered_rules.specs.Literals.{Literal, Literals, Holds, InState, Does, Distinct, Not, Or, End, More, Rule}
 

@@ -1,4 +1,4 @@
-//! Which derived atoms depend on the state or on the moves.
+//! Finds the derived atoms that depend on the state or on moves.
 ghost use Rattle.std.specs.Prelude.{◌≡◌, [], IfOk};
 ghost use Rattle.numbered_rules.specs.Fit.{truth, any_true};
 ghost use Rattle.numbered_rules.specs.Numbered.{bit, numbered, view, views, rules_of, row_after, unset};
@@ -35,8 +35,8 @@ fn any_speaks(literals: &Vec<Literal>, row: &Row, of_state: bool) -> bool
     false
 }
 
-/// For each derived atom, whether it depends on a `does` sentence or, with `of_state`, on a `true` sentence. The rules must
-/// be in the order of a ranking.
+/// Returns a row that is set for each derived atom that depends on a `does` sentence or, with `of_state`, on a `true`
+/// sentence. The rules must be in the order of a ranking.
 pub fn dependence(
     alloc: Global,
     rules: &[Rule],

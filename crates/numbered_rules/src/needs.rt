@@ -1,4 +1,4 @@
-//! Which atoms the derived atoms need.
+//! The atoms that each derived atom needs.
 ghost use Rattle.std.specs.Prelude.{◌≡◌, ℕ, ◌<◌, ◌++◌, IfOk, OnOk, length, replicate, []};
 ghost use Rattle.numbered_rules.specs.Numbered.{view, views, rules_of};
 ghost use Rattle.numbered_rules.specs.Order.{needs_at};
@@ -51,7 +51,7 @@ fn no_needs(alloc: Global, size: usize) -> Result<Vec<Needs>, AllocError>
     Ok(needs)
 }
 
-/// For each atom below `size`, the atoms in the bodies of its rules.
+/// Returns, for each atom below `size`, the atoms below `size` in the bodies of its rules.
 pub fn needs_of(alloc: Global, rules: &[Rule], size: usize) -> Result<Vec<Needs>, AllocError>
     ensures size { IfOk result (λ v. length v.items ≡ size) }
     ensures needs { IfOk result (λ v. (n : ℕ) → n < size → needs_at v.items n ≡ needs_of size n (rules_of rules.now)) }

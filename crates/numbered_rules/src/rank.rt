@@ -1,4 +1,4 @@
-//! An order of the derived atoms in which each comes after those that it needs.
+//! An order of the derived atoms in which each atom comes after the atoms that it needs.
 ghost use Rattle.std.specs.Prelude.{◌≡◌, ◌<◌, ◌+◌, ◌≤◌, ℕ, length, IfOk, OnOk, Some, None, slice_index, false, true, IfSome, IfNone, ◌-◌, ◌≢◌};
 ghost use Rattle.numbered_rules.specs.Order.{IsGraph, IsGraphAcyclic, IsRanking, needs_at};
 ghost use Rattle.numbered_rules.specs.Internal.Search.{IsSearching, IsLinked, mark, work, IsPlaced, AreOnlyOld};
@@ -30,7 +30,7 @@ impl Needs {
     }
 }
 
-/// The state of an atom in the search: not met, at this index of the path, or at this place of the order.
+/// The state of an atom in the search: not met yet, on the path at this index, or in the order at this place.
 #[derive(Clone, Copy)]
 pub enum Mark {
     New,
@@ -159,7 +159,7 @@ impl Search {
         Ok(false)
     }
 
-    /// Orders this atom and all that it needs. Returns true if a cycle was found.
+    /// Orders this atom and all atoms that it needs. Returns true if a cycle was found.
     fn visit(&mut self, needs: &[Needs], start: usize) -> Result<bool, AllocError>
         requires search { IsSearching needs.now self.old.marks.items self.old.next.items self.old.path.items self.old.order.items }
         requires empty { length self.old.path.items ≡ 0 }

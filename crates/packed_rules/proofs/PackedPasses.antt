@@ -1,4 +1,4 @@
--- A pass over packed rules gives the same as a pass over the rules.
+-- A pass over packed rules gives the same row as a pass over the rules.
 use Rattle.std.proofs.Common.{ℕ, zero, suc, ◌+◌, ◌-◌, ◌<◌, ◌≤◌, ◌≡◌, Bool, true, false, ◌&&◌, if◌then◌else◌, List, [], ◌∷◌, ◌++◌, length, take, drop, set, get_or, map, refl, sym, ap, ◌∙◌, arith, subst, length-drop, length-append}
 use Rattle.std.proofs.lemmas.List.{length-take, get_or_past, take_all, drop_all, take-set-le, drop-set-add, drop_more, take_more, take-replicate, drop-replicate, take-append-le, drop-append-le, nil_from_length, map_push}
 use mathlib.Core.Bool.{and-true, and_assoc}
@@ -83,7 +83,7 @@ pub tests-cut : (ss : List RuleSize) (ts : List Test) (ms : List MoveTest) (os :
 tests-cut [] ts ms os cut = tt
 tests-cut (s ∷ ss) ts ms os cut = (cut.0, tests-cut ss (drop s.tests ts) (drop s.moves ms) (drop s.others os) cut.3)
 
--- the literals so far, as moves, tests and others, together with the remaining ones, mean the same as all literals
+-- the literals packed so far (as moves, tests and others) and the remaining literals together mean the same as all literals
 abbrev pub SaysSoFar : ℕ → List MoveTest → List Test → List (Literal ℕ ℕ) → List (Literal ℕ ℕ) → List (Literal ℕ ℕ) → Type 0
 SaysSoFar n moves tests others rest all =
     (bits : List Bool) (joint : List ℕ)
@@ -142,14 +142,14 @@ other-more n moves tests others rest all l says bits joint =
     let q = all_true w v (literals rest) in
     ap (λ x. (m && (p && x)) && q) (all-true-push w v others l) ∙ other-back m p o (truth w v l) q ∙ says bits joint
 
--- an empty row is empty in both parts
+-- if no value of a row is set, no value of either part is set
 pub none-terms : (n m : ℕ) → take n (unset (n + m)) ≡ unset n
 none-terms n m = take-replicate n (n + m) false (omega arith)
 
 pub none-atoms : (n m : ℕ) → drop n (unset (n + m)) ≡ unset m
 none-atoms n m = let e : n + m - n ≡ m = omega arith in drop-replicate n (n + m) false ∙ ap unset e
 
--- both cuts of the row have the same terms
+-- cutting the row at n or at m gives the same terms and the same atoms
 pub record AreSameCut (m n : ℕ) (bits : List Bool) : Type 0 where
   pub terms : take n bits ≡ take m bits
   pub atoms : drop n bits ≡ drop m bits

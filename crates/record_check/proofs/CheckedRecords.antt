@@ -1,4 +1,4 @@
--- Both halves of the check together: which test fails first.
+-- Both halves of the check together: the first test that fails.
 use Rattle.std.proofs.Common.{List, inl, inr, Result}
 use Rattle.std.specs.Prelude.{ℕ, IfErr, IsErrAnd, ◌≡◌}
 use Rattle.std.proofs.lemmas.Result.{err_from_is_err_and}

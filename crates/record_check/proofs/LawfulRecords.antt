@@ -1,4 +1,4 @@
--- A record whose replay has no error is that of a lawful match, and one with an error is not.
+-- A record whose replay has no error is the record of a lawful match. A record whose replay has an error is not.
 use Rattle.std.proofs.Common.{◌≡◌, ◌≢◌, ℕ, zero, suc, ◌<◌, ◌≤◌, Bool, false, Some, None, List, [], ◌∷◌, length, take, map, refl, sym, ap, ◌∙◌, subst, arith, inl, inr, Contains}
 use Rattle.std.proofs.Math.Nat.{eq-or-lt_of_le}
 use Rattle.std.specs.Prelude.{slice_index_or, slice_get, option_map, ◌==◌}

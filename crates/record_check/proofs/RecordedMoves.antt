@@ -74,7 +74,7 @@ is-empty (x ∷ xs) none = let w = longer (length xs) in absurd cc
     longer : (n : ℕ) → (suc n == 0) ≡ false
     longer n = grind (arith, nat_tests)
 
--- the error says that the role is retired if and only if it is
+-- the error says that the role is retired if and only if the role is retired
 abbrev pub IsRightFor : Bool → List ℕ → Type 0
 IsRightFor true e = e ≡ retired_text
 IsRightFor false e = e ≢ retired_text
@@ -91,7 +91,7 @@ wrong-for true false e decides other = λ is. true≢false (sym (decides.1 is))
 wrong-for false true e decides other = decides.0 refl
 wrong-for false false e decides other = absurd cc
 
--- the first move, with an error that gives no legal move as the answer
+-- e may be the error of the move with index p: it is empty, or the move is the first one and e does not call a legal move illegal
 abbrev pub MayFollow : {S M : Type 0} → Rules S M → List M → ℕ → List ℕ → Type 0
 MayFollow g moves p e = (e ≡ []) ⊎ ((p ≤ 0) × ¬ (DeniesOne g moves e))
 
@@ -141,7 +141,7 @@ denied-move {S} {M} g moves text e p within named denies =
 first-apart : (b : ℕ) (xs ys : List ℕ) → xs ≡ ys → eqb (slice_index_or xs 0 0) b ≡ false → eqb (slice_index_or ys 0 0) b ≡ true → ⊥
 first-apart b xs ys same one other = let w : eqb (slice_index_or xs 0 0) b ≡ eqb (slice_index_or ys 0 0) b = ap (λ l. eqb (slice_index_or l 0 0) b) same in absurd cc
 
--- the first byte of an illegal answer's error, and of a retired role's
+-- the first bytes of two errors: that of an illegal answer, and that of a retired role
 abbrev letter-i : ℕ
 letter-i = 73
 

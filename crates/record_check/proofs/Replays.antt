@@ -1,4 +1,4 @@
--- The turns that lead to a state of a record: the beginning, one more turn, and that they are determined.
+-- The turns that lead to a state of a record: no turns, one more turn, and a proof that the record determines the turns.
 use Rattle.std.proofs.Common.{◌≡◌, ℕ, zero, suc, ◌+◌, ◌<◌, ◌≤◌, min, Bool, false, Some, List, [], ◌∷◌, ◌++◌, length, take, map, refl, sym, ap, ◌∙◌, subst, arith, inl, inr}
 use Rattle.std.proofs.Math.Nat.{eq-or-lt_of_le}
 use Rattle.std.specs.Prelude.{All, replicate, slice_index_or, slice_get, ◌==◌}

@@ -111,7 +111,7 @@ fn next_moves<G: Game>(
 }
 
 /// The joint move with these texts, or the error of the lowest role that is wrong. `strikes` has the roles' strikes after
-/// the earlier turns. Computes each role's moves only once, because this may take long.
+/// the earlier turns. Computes each role's legal moves only once, because this may take long.
 fn recorded_joint<G: Game>(
     alloc: Global,
     game: &G,

@@ -1,4 +1,4 @@
--- The tests find exactly the texts that are errors, and exactly those that are folded texts.
+-- The tests accept exactly the texts that are errors, and exactly the lower-case texts.
 use Rattle.std.proofs.Common.{◌≡◌, ◌≢◌, ℕ, ◌≤◌, Bool, true, false, Option, Some, None, List, [], ◌++◌, length, IsTrue, ◌↔◌, inl, inr, sym, ap, ◌∙◌, subst, arith, Decides}
 use Rattle.std.specs.Prelude.{is_some}
 use Rattle.game_core.specs.Canonical.{canonical, IsFoldedText}
@@ -16,7 +16,7 @@ use Rattle.match_book.specs.declared.judgement.Substitution.TheVariants.{TimeOut
 use Rattle.record_reading.specs.RecordParts.{IsErrorText, MayBeGiven}
 use Rattle.record_reading.specs.Internal.Shown.{Shows, AnyShape}
 
--- the text that an error gives as the answer
+-- the text is the error of an illegal answer with the reading x
 pub record Names (text x : List ℕ) : Type 0 where
   pub named : text ≡ illegal_prefix ++ x
   pub is_folded : IsFoldedText x

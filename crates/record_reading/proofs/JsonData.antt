@@ -1,4 +1,4 @@
--- What JSON shows, and what is written in it.
+-- The values that JSON data shows, and the data that values are written as.
 use Rattle.std.proofs.Common.{◌≡◌, ℕ, zero, suc, ◌+◌, ◌<◌, ◌≤◌, Option, Some, None, List, [], ◌∷◌, ◌++◌, length, get_or, take, map, refl, sym, ap, ◌∙◌, subst, append_assoc, append-nil, arith}
 use Rattle.std.specs.Borrow.{Bor}
 use Rattle.std.specs.Prelude.{option_and_then, option_copied, All}
@@ -96,7 +96,7 @@ none_behind written (x ∷ done) d more (y ∷ ys) is none =
     let tail : map written done ++ d ∷ more ≡ map written ys = cc in
     none_behind written done d more ys tail none
 
--- if it shows a value, that is the next one
+-- if the next member shows a value, the shown list gains this value
 pub next_shown : {A : Type 0} (written : A → Data) (done now : List A) (x : A) (d : Data) (more all : List Data) → now ≡ done ++ x ∷ [] → Some d ≡ Some (written x) → map written done ++ d ∷ more ≡ all → map written now ++ more ≡ all
 next_shown written done now x d more all pushed shown was =
     let one : d ≡ written x = cc in
@@ -125,7 +125,7 @@ shown_length written found vs ys is shown =
     let trees : list_tree (map view vs) ≡ list_tree (map written ys) = cc in
     sym (length-map vs view) ∙ ap length (list_tree_same (map view vs) (map written ys) trees) ∙ length-map ys written
 
--- a value that is shown but does not have the shape: no value of the shape is shown
+-- if the data is that of a value without the shape, no value of the shape is shown
 pub other_shape : {A : Type 0} (written : A → Data) → ((x y : A) → written x ≡ written y → x ≡ y) → (P : A → Type 0) (found : Option Data) (x : A) → found ≡ Some (written x) → ¬ P x → (y : A) → found ≡ Some (written y) → P y → ⊥
 other_shape {A} written one P found x is not y shown shaped =
     let same : written y ≡ written x = cc in

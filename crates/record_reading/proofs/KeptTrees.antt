@@ -1,4 +1,4 @@
--- What is kept of a tree has the same values at all keys of a record.
+-- The kept part of a tree has the same values as the tree at all keys of a record.
 use Rattle.std.proofs.Common.{◌≡◌, ℕ, Bool, true, false, Option, Some, None, List, [], ◌∷◌, map, refl, sym, ap, ◌∙◌, true≢false, inl, inr}
 use Rattle.std.specs.Prelude.{option_map, if◌then◌else◌, ◌&&◌}
 use Rattle.serde_json.specs.Data.{Data, null, boolean, number, string, array, object}

@@ -1,4 +1,4 @@
--- The keys of a record, one after another: what is read into its parts, and what is written.
+-- The keys of a record, one after another: how their values are read into the parts, and how they are written.
 use Rattle.std.proofs.Common.{◌≡◌, ℕ, zero, suc, ◌+◌, ◌<◌, Bool, true, false, Option, Some, List, [], ◌∷◌, ◌++◌, length, get_or, take, drop, map, refl, sym, ap, ◌∙◌, subst, append_assoc, arith, inl, inr, Result}
 use Rattle.std.specs.Prelude.{All, IfErr, IsErrAnd, ◌⊎◌}
 use Rattle.std.proofs.lemmas.List.{take_more, take-append-drop, get_or-map, get_or_append_left}
@@ -93,7 +93,7 @@ not_read g tree version found p q i d false below of is none wrong held = (
   λ (x, there, fits). none x (counted g tree version found (get_or keys i d) of is ∙ there) fits,
 )
 
--- why the reading ends at a key
+-- the error with which reading ends at a key
 abbrev pub EndsAt : {S M : Type 0} → Rules S M → Data → VerifyFault → Type 0
 EndsAt g tree fault = (fault ≡ Memory) ⊎ ((key : Key) × (fault ≡ BadShape key) × IsFirstWithout (IsShaped g tree) keys key)
 

@@ -1,4 +1,4 @@
--- What a text reads as, and whether the text is a lawful record.
+-- The values that a text is read as, and whether the text is a lawful record.
 use Rattle.std.proofs.Common.{◌≡◌, ◌≢◌, ap, List, sym, subst, Result, inr}
 use Rattle.std.specs.Prelude.{ℕ, IfErr}
 use Rattle.std.proofs.lemmas.Result.{IfErr-weaker}

@@ -1,4 +1,4 @@
--- Which texts are the number of a role.
+-- The texts that are numbers of roles.
 use Rattle.std.proofs.Common.{◌≡◌, ℕ, ◌<◌, ◌≤◌, ◌^◌, Some, None, List, sym, ap, ◌∙◌, arith}
 use Rattle.std.specs.Fmt.{decimal}
 use Rattle.game_core.specs.Laws.{NumbersReadBack}

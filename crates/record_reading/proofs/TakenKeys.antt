@@ -58,7 +58,7 @@ all_left tree members same (k ∷ ks) = (view-lookup (key_text k) members.entrie
 pub left_here : (tree : Data) (members : BTreeMap (String Global) Value) (i : ℕ) (d : Key) → i < length keys → HoldsForEach (IsLeft tree members) (drop i keys) → IsLeft tree members (get_or keys i d)
 left_here tree members i d below left = (subst (HoldsForEach (IsLeft tree members)) (drop-cons keys i d below) left).0
 
--- it is taken, and the later ones are still there
+-- after the value at a key is taken, the values at the later keys are still there
 pub left_more : (tree : Data) (members rest : BTreeMap (String Global) Value) (i : ℕ) (d : Key) → i < length keys → UpdatesBy string_cmp (λ k. slice_cmp nat_cmp (key_text (get_or keys i d)) (string_bytes k)) members rest None
     → HoldsForEach (IsLeft tree members) (drop i keys) → HoldsForEach (IsLeft tree rest) (drop (i + 1) keys)
 left_more tree members rest i d below taken left =

@@ -1,4 +1,4 @@
--- Which texts are lawful records of a game, and which do not have the shape of a record.
+-- Lawful records of a game, and texts that do not have the shape of a record.
 use Rattle.std.specs.Prelude.{◌≡◌, ◌≢◌, ℕ, suc, List, ◌∷◌, ◌++◌, length, Some, IsUtf8, All, ◌⊎◌}
 use Rattle.serde_json.specs.Data.{Data}
 use Rattle.serde_json.specs.Read.{read}

@@ -1,4 +1,4 @@
--- The values of a match's record, and which values have the shape of a record.
+-- The values of a match's record, and the shape that they must have.
 use Rattle.std.specs.Prelude.{◌≡◌, ℕ, zero, suc, ◌<◌, ◌≤◌, List, [], ◌∷◌, ◌++◌, length, map, Option, option_to_list, All, ◌⊎◌, true}
 use Rattle.std.specs.List.{list_all}
 use Rattle.game_core.specs.Canonical.{IsFoldedText}

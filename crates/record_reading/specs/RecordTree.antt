@@ -84,7 +84,8 @@ abbrev pub version_said : Option Data → Option Version
 version_said None = Some First
 version_said (Some d) = option_and_then version_numbered (as_whole d)
 
--- Which value counts at a key, given the record's version and the value that is there: in every version the value itself.
+-- The value that counts at a key, given the version of the record and the value in it. For a key of every version, the value in the record
+-- counts.
 abbrev pub in_each_version : Option Version → Option Data → Option Data
 in_each_version version there = there
 
@@ -100,8 +101,8 @@ unless_there absent version there = option_or there (Some absent)
 
 -- ---- The table
 
--- A key's text, the versions in which it counts, its value in a record, the JSON of this value, and which values have the key's shape in a
--- record of the game.
+-- A key's text, the versions in which it counts, its value in a record, the JSON of this value, and the values that have the key's shape
+-- in a record of the game.
 pub record Row : Type 1 where
   pub Value : Type 0
   pub text : List ℕ

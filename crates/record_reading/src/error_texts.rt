@@ -31,7 +31,7 @@ fn is_folded_text(alloc: Global, text: &[u8]) -> Result<bool, AllocError>
     }
 }
 
-/// Whether the text is an error: empty if the role's own answer was taken, or else the reason for a replaced move. The empty
+/// Whether the text is an error: empty if the match took the role's answer, or else the reason for a replaced move. The empty
 /// text, `TO` and `CE` are also texts of marks.
 fn is_error_text(alloc: Global, text: &[u8]) -> Result<bool, AllocError>
     ensures { IfOk result (λ b. IsTrue b ↔ IsErrorText text.now) }

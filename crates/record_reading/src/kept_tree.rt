@@ -1,7 +1,6 @@
 //! The tree of a record's text, without the values that no record can have.
 //!
-//! A list or an object takes many times the memory of its text, so the reader passes over such values and does not store
-//! them.
+//! A list or an object takes many times the memory of its text, so the reader skips such values instead of storing them.
 ghost use Rattle.std.specs.Prelude.{◌≡◌, ◌<◌, ◌≤◌, ◌∷◌, ◌⊎◌, IfErr, IfOk, List, OnOk, None, Some, length, map, option_map};
 ghost use Rattle.json.specs.Json.{items, members, read_key, value};
 ghost use Rattle.json.specs.Reads.{token_of};
@@ -21,10 +20,10 @@ use json::{Reader, Scratch, Token};
 use serde_json::{Map, Value};
 use std::alloc::{AllocError, Global};
 
-/// How deep lists and objects may nest.
+/// The largest depth of nested lists and objects.
 const MAX_DEPTH: usize = 127;
 
-/// How deep lists nest in a value of a record.
+/// The largest depth of nested lists in a value of a record.
 const MAX_LISTS: usize = 2;
 
 /// The next key, or `None` at the end of the object.

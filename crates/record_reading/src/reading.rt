@@ -27,7 +27,7 @@ use match_book::MAX_TURNS;
 use serde_json::Value;
 use std::alloc::{AllocError, Global};
 
-/// A mark or null for each role.
+/// Reads a mark or null for each role.
 fn marks_in(alloc: Global, found: Option<&Value>, roles: usize) -> Result<Option<Marks>, AllocError>
     ensures { IfOk result (λ o. Shows marks_tree (λ marks. length marks ≡ roles) (data_in found.entry) o) }
 {
@@ -65,7 +65,7 @@ fn is_goal_count(goals: usize, roles: usize) -> bool
     goals == 0 || goals == roles
 }
 
-/// No goals, or one for each role.
+/// Reads the goals: none, or one for each role.
 fn goals_in(alloc: Global, found: Option<&Value>, roles: usize) -> Result<Option<Goals>, AllocError>
     ensures { IfOk result (λ o. Shows goal_values_tree (AreGoals roles) (data_in found.entry) o) }
 {
@@ -109,7 +109,7 @@ fn clock_in(found: Option<&Value>) -> Option<u32>
     }
 }
 
-/// The version of a record. A record without the key has the first version.
+/// Reads the version of a record. A record without the key has the first version.
 fn version_in(found: Option<&Value>) -> Option<Version>
     ensures said { result ≡ version_said (data_in found.entry) }
     ensures shown { Shows version_tree AnyShape (unless_there (version_tree First) result (data_in found.entry)) result }
@@ -124,7 +124,7 @@ fn version_in(found: Option<&Value>) -> Option<Version>
     }
 }
 
-/// A lawful number of strikes. Only a record of the second version has the value; in others it is 0.
+/// Reads a lawful number of strikes. Only a record of the second version has this value; in any other record it counts as 0.
 fn strikes_in(version: Option<Version>, found: Option<&Value>) -> Option<u8>
     ensures { Shows whole_tree (λ strikes. is_strikes strikes ≡ true) (since_second (whole_tree 0) version (data_in found.entry)) result }
 {
@@ -139,7 +139,7 @@ fn strikes_in(version: Option<Version>, found: Option<&Value>) -> Option<u8>
     }
 }
 
-/// For each turn, one error for each role.
+/// Reads one error for each role in each turn.
 fn errors_in(
     alloc: Global,
     found: Option<Value>,
@@ -175,7 +175,7 @@ fn are_moves(turns: &[Texts], roles: usize) -> bool
     turns.len() <= MAX_TURNS && are_wide(turns, roles)
 }
 
-/// For each turn, one text for each role. There are at most as many turns as a match may have.
+/// Reads one text for each role in each turn, for at most as many turns as a match may have.
 fn moves_in(
     alloc: Global,
     found: Option<Value>,
@@ -199,7 +199,7 @@ fn are_players(names: &[Text], roles: usize) -> bool
     names.len() == roles && are_names(names)
 }
 
-/// A lawful name for each role.
+/// Reads a lawful name for each role.
 fn players_in(
     alloc: Global,
     found: Option<Value>,

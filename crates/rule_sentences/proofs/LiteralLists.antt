@@ -43,7 +43,7 @@ prefixed-push : (ls : List TextLiteral) (l : TextLiteral) (o : Option TextLitera
 prefixed-push [] l o = refl
 prefixed-push (m ∷ ls) l o = ap (both More (Some m)) (prefixed-push ls l o)
 
--- what is left to read from this place
+-- the members that are left to read from this place
 abbrev pub left : ℕ → ℕ → List Expr → Expressions
 left start place xs = without_first (start - place) (expressions (drop place xs))
 

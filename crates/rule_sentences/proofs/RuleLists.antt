@@ -4,7 +4,7 @@ use Rattle.game_core.specs.Expression.{Expression}
 use Rattle.kif_text.specs.View.{view as expression}
 use Rattle.kif_text.specs.declared.expr.Expr.{Expr}
 
--- what is left from this place
+-- the expressions that are left from this place
 abbrev pub rest : ℕ → List Expr → List Expression
 rest i xs = map expression (drop i xs)
 

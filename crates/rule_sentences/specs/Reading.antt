@@ -23,7 +23,7 @@ unfoldable pub goal_value : Expression → Option ℕ
 goal_value (atom w) = plain_number w max_goal
 goal_value (list xs) = None
 
--- the kind of word that the first member is, if it is an atom
+-- the kind of the first member's word, if this member is an atom
 abbrev pub head_word : Expressions → Option Word
 head_word none = None
 head_word (more (atom w) xs) = Some (word_of w)
@@ -120,6 +120,6 @@ abbrev pub read_form : Expression → Option Sentence
 read_form (atom w) = option_map fact (read_alone (word_of w) w)
 read_form (list xs) = read_list (head_word xs) xs
 
--- reads a sentence in which at most max_depth lists nest
+-- reads a sentence with lists nested at most max_depth deep
 abbrev pub read_sentence : Expression → Option Sentence
 read_sentence x = if nat_le (depth x) max_depth then read_form x else None

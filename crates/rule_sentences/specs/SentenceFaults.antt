@@ -1,4 +1,4 @@
--- Which expressions are sentences of a description, and which is the first expression that is not a sentence.
+-- The expressions that are sentences of a description, and the error of the first expression that is not one.
 use Rattle.std.specs.Prelude.{ℕ, ◌≡◌, Bool, List, Option, Some, None, is_none, option_and_then, not, ◌&&◌}
 use Rattle.std.specs.List.{filter_map, position_from}
 use Rattle.game_core.specs.Expression.{Expression}

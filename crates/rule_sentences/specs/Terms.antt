@@ -33,7 +33,7 @@ abbrev mutual
   are_terms none = true
   are_terms (more x xs) = is_term x && are_terms xs
 
--- a term in which at most max_depth lists nest
+-- a term with lists nested at most max_depth deep
 abbrev pub is_ground_term : Expression → Bool
 is_ground_term x = is_term x && nat_le (depth x) max_depth
 

@@ -1,4 +1,4 @@
-//! Where atomic sentences may be.
+//! Checks the positions of atomic sentences.
 ghost use Rattle.std.specs.Prelude.{◌≡◌, option_map};
 ghost use Rattle.rule_sentences.specs.SentenceViews.{view, views, sentence_of, rule_of};
 ghost use Rattle.rule_sentences.specs.Places.{stands_in_bodies, is_placed, are_placed, is_head_of, place};

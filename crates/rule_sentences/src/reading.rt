@@ -47,7 +47,7 @@ fn one_argument(alloc: Global, members: &[Expr]) -> Result<Option<Text>, AllocEr
     term_text(alloc, &members[1])
 }
 
-/// The second and third members, if the list has three members and these are terms.
+/// The second and third members, if the list has three members and these two are terms.
 fn two_terms(alloc: Global, members: &[Expr]) -> Result<Option<(Text, Text)>, AllocError>
     ensures { IfOk result (λ o. o ≡ two_arguments term_text (expressions members.now)) }
 {

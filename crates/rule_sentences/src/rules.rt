@@ -34,8 +34,8 @@ fn first_variable(sentences: &[Expr]) -> Option<usize>
     None
 }
 
-/// The sentences as rules, and the number of the first sentence in which an atomic sentence is misplaced. The error names
-/// the first expression that does not have the form of a sentence.
+/// Reads the sentences as rules. Also returns the number of the first sentence that has a misplaced atomic sentence. The
+/// error names the first expression that does not have the form of a sentence.
 fn read_each(alloc: Global, sentences: &[Expr]) -> Result<(Vec<Rule>, Option<usize>), LoadFault>
     ensures formed { IfOk result (λ _. first_place is_malformed (map expression sentences.now) ≡ None) }
     ensures misplaced { IfOk result (λ p. p.1 ≡ first_place is_misplaced (map expression sentences.now)) }

@@ -69,7 +69,7 @@ pub fn count_atomic_sentences(alloc: Global, rules: &[Rule]) -> Result<usize, Al
     Ok(set.len())
 }
 
-/// What remains of `room` if each atomic sentence of the literal, including repeated ones, takes one.
+/// Subtracts one from `room` for each atomic sentence of the literal, including repeated ones, and stops at 0.
 #[cycle(room_beside)]
 fn room_beside(literal: &Literal, room: usize) -> usize
     ensures { result ≡ room - length (atomics_in (view literal.now)) }

@@ -41,7 +41,7 @@ fn have_variable(members: &Vec<Expr>) -> bool
     false
 }
 
-/// Whether an atom may contain the byte, and the byte is not a capital. Four range tests are faster than one test for each
+/// Whether the byte is an atom byte and not a capital. Four range tests are faster than one test for each
 /// refused byte.
 #[tactic(auto, using(std::proofs::lemmas::Bool::Decides::nat_tests))]
 fn is_small_atom_byte(byte: u8) -> bool
@@ -99,7 +99,7 @@ fn are_terms(members: &Vec<Expr>) -> bool
     true
 }
 
-/// Whether at most `lists` lists nest in the expression.
+/// Whether the lists in the expression are nested at most `lists` deep.
 #[cycle(nests_at_most)]
 pub fn nests_at_most(expr: &Expr, lists: usize) -> bool
     ensures { result ≡ nat_le (depth (view expr.now)) lists }

@@ -11,7 +11,7 @@ use Rattle.game_core.specs.declared.countdown.Take.TheVariants.{Noop, One, Two}
 use Rattle.game_core.specs.Play.{IsLawful}
 use Rattle.game_core.specs.Countdown.{countdown, take_text, role_of, side_of, side_name, turn_text, position_texts}
 
--- the move with this text; only the bytes in which the texts of moves differ are compared
+-- the move with this text; it compares only the bytes where the texts of moves differ
 abbrev taker : List ℕ → Take
 taker text = if slice_index text 0 == 110 then Noop else (if slice_index_or text 6 0 == 49 then One else Two)
 

@@ -1,4 +1,4 @@
--- Which heads are barred, according to the rows of dependence.
+-- The heads that are barred, according to the rows of dependence.
 use Rattle.std.specs.Prelude.{ℕ, ◌+◌, Bool, false, ◌||◌, List, [], ◌∷◌}
 use Rattle.rule_sentences.specs.declared.sentence.Derived.{Derived}
 use Rattle.rule_sentences.specs.declared.sentence.Derived.TheVariants.{Role, Init, Next, Legal, Goal, Terminal, Other}

@@ -1,4 +1,4 @@
--- What a match stores besides its value, so that no call iterates over all turns.
+-- The values that a match stores in addition to its plain value, so that no call iterates over all turns.
 use Rattle.std.specs.Prelude.{◌≡◌, ℕ, ◌<◌, List, Option, Some, length, take, slice_get}
 use Rattle.game_core.specs.Play.{Rules}
 use Rattle.match_book.specs.Roles.{at_role}

@@ -1,4 +1,4 @@
--- Facts of a replay that only private functions cite.
+-- Definitions about a replay that only private functions use.
 use Rattle.std.specs.Prelude.{◌≡◌, ◌==◌, ◌↔◌, ℕ, ◌<◌, Bool, true, false, IsTrue, if◌then◌else◌, List, length, map, slice_index_or, Result, Ok, Err}
 use Rattle.game_core.specs.Play.{Rules, IsJoint}
 use Rattle.match_book.specs.Roles.{every_role, is_there, blank}

@@ -58,6 +58,6 @@ AreKeptMembers ms kept = (key : Key) → get_member (key_text key) kept ≡ opti
 abbrev pub IsKeptTree : Data → Data → Type 0
 IsKeptTree tree kept = (key : Key) → get (key_text key) kept ≡ option_map kept_at (get (key_text key) tree)
 
--- out of memory, or nothing was read
+-- the error is out of memory, or it is `NotJson` and nothing was read
 abbrev pub IsRefused : {A : Type 0} → Option A → VerifyFault → Type 0
 IsRefused read fault = (fault ≡ Memory) ⊎ ((fault ≡ NotJson) × (read ≡ None))
