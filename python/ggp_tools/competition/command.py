@@ -103,8 +103,8 @@ def write_matches(plan: Plan, results: list[Result], known: Known | None = None)
 
 
 def known_results(plan: Plan, referee: Referee, known: Known | None) -> tuple[list[Result], bool]:
-    """Returns the results that count, in the order of the schedule, and whether there are records that do not count. Reports why those do
-    not count."""
+    """Returns the results that count, in the order of the schedule, and whether there are records that do not count. Reports why each of these
+    does not count."""
     results, faults, misfits = check_records(plan, referee, known)
     for match, why in {**faults, **misfits}.items():
         print(f"ggp_competition: {match} does not count: {why}", file=sys.stderr)
@@ -390,7 +390,7 @@ COMMANDS = {
 def main() -> int:
     ready_streams()
     asked = arguments(sys.argv[1:])
-    # If an archive can't be read, or its check is interrupted, it has not failed the check.
+    # An archive that can't be read, or whose check is interrupted, has not failed the check.
     interrupted = 3 if asked.run is run_check else 1
     try:
         referee = Referee(find_program(asked.program))

@@ -30,9 +30,9 @@ PORT = "{port}"
 RUNS_ELSEWHERE = "a program that runs its arguments on another machine"
 MEMORY = re.compile("[1-9][0-9]{0,5}[KMGT]")
 MOST_PROCESSORS, MOST_START_SECONDS, MOST_RATING = 4_096, 3_600, 10_000
-# How long a job may wait before its launcher runs it, for example in a queue, in seconds.
+# How many seconds a job may wait until its launcher runs it, for example in a queue: the default, and the maximum.
 QUEUE_SECONDS, MOST_QUEUE_SECONDS = 3_600, 604_800
-# The default time limit for making a description ground, in seconds, and the maximum.
+# The time limit for grounding a description, in seconds: the default, and the maximum.
 INSTANTIATING, MOST_INSTANTIATING = 60, 1_000_000
 # The forms that plan each round from the results of the previous one.
 ROUND_KINDS = SWISS, KNOCKOUT = "swiss", "knockout"
@@ -154,8 +154,8 @@ class Section:
         return self.table[key]
 
     def text(self, key: str, default: str | None = None, what: str = "", is_valid: Callable[[str], object] = bool) -> str | None:
-        """Returns the text of the key. If the key is missing or its value is not a text, returns the default. If `what` is given, the text
-        must be valid."""
+        """Returns the text of the key. If the key is missing or its value is not a text, returns the default. If `what` is given, it describes the
+        texts that `is_valid` accepts, and any other text is a mistake."""
         found = self.value(key, str, "a text in quotes", default)
         if what and found is not None and found is self.table.get(key) and not is_valid(found):
             self.expected(key, what, found)
@@ -262,7 +262,7 @@ class Section:
 
 
 def read_by(read: Callable, *limits: object, key: str = "", **more: object) -> Any:
-    """Returns a dataclass field that a method of `Section` reads within these limits. The key has the field's name, unless `key` is
+    """Returns a dataclass field whose value a method of `Section` reads, with these limits. The key has the name of the field, unless `key` is
     given."""
     return field(metadata={"read": lambda section, name: read(section, key or name, *limits), "key": key}, **more)
 
@@ -334,7 +334,7 @@ class Player:
 
 @dataclass(frozen=True)
 class Launcher:
-    """A command that runs a program on another machine, how many matches it may have at a time, and how long each may wait until it runs."""
+    """A command that runs a program on another machine, how many matches it may run at a time, and how long each may wait until it runs."""
 
     command: tuple[str, ...] = read_by(Section.words, RUNS_ELSEWHERE)
     slots: int = read_by(Section.number, 1, MOST_AT_A_TIME)

@@ -1,4 +1,4 @@
-"""Checks the description of a game: whether the referee accepts it, which sentences are suspicious, and how random matches end."""
+"""Checks the description of a game: whether the referee accepts it, which sentences are suspicious, and how random matches of it end."""
 
 import argparse
 import pathlib
@@ -24,7 +24,7 @@ ends in time, or a record differs from the expected one. 2: the command is wrong
 example because the referee or the grounder was killed or is out of memory, or no temporary file can be written.
 """
 MOST_MATCHES, MOST_SEED = 10_000, 10**18
-# The maximum number of seeds that are listed, and the maximum number of bytes of a state.
+# The maximum number of seeds in a list, and the maximum number of bytes of a state in a message.
 LISTED, MOST_STATE = 10, 500
 # `plan` plays random matches until one of them ends, but at most this many, and begins no turn after this many seconds.
 TRIAL_MATCHES, TRIAL_SECONDS = 5, 10

@@ -1,8 +1,9 @@
-"""The schedule of a competition that grows: after the first match you may add rounds, players, games and pairings, and order rematches. The
-planned matches stay as they are, and the new matches come after them.
+"""Computes the schedule of a competition that grows: after the first match, you can still add rounds, players, games and pairings, and order
+rematches. The planned matches stay as they are, and the new matches come after them.
 
-The schedule follows from all versions of competition.toml, and from the rematches. Each version adds the matches that this version requests
-and the previous version did not. If players are added, a game of more than two roles gets the matches in which a new player plays."""
+The schedule follows from all versions of competition.toml, and from the rematches. Each version adds the matches that it requests and that
+the previous version did not request. If a version adds players, a game of more than two roles gets only the matches in which a new player
+plays."""
 
 import itertools
 from collections import Counter
@@ -23,7 +24,7 @@ ResultOf = Callable[[Match], Result | None]
 
 
 class Misfit(Exception):
-    """The reason why a schedule can't grow in this way. If the error is in competition.toml, `line` is the line of the error."""
+    """The reason why a schedule can't grow as requested. If the error is in competition.toml, `line` is the line of the error."""
 
     def __init__(self, words: str, line: int = 0) -> None:
         super().__init__(words)
@@ -54,7 +55,7 @@ class History:
 
 
 def shape(competition: Competition) -> tuple[object, ...]:
-    """Returns everything that determines the schedule of a competition."""
+    """Returns the values that determine the schedule of a competition."""
     form, games = competition.form, [(game.name, game.start, game.play) for game in competition.games]
     names = [(player.name, player.withdrawn is None) for player in competition.players]
     rules = competition.name, competition.ids, competition.withdrawn_results, competition.absent_rounds
@@ -62,15 +63,15 @@ def shape(competition: Competition) -> tuple[object, ...]:
 
 
 def refuse_unchanged(history: History, competition: Competition) -> None:
-    """Refuses an earlier version that asks for the same matches as the version after it."""
+    """Refuses an earlier version that requests the same matches as the version after it."""
     for (until, before), (_, after) in itertools.pairwise((*history.earlier, (None, competition))):
         if shape(before) == shape(after):
             raise Misfit(f"earlier/{until}.toml asks for the same matches as the file after it, so it was not replaced; delete it")
 
 
 def fixed(competition: Competition) -> dict[str, object]:
-    """Returns, by key, the values that must not change once matches have been played: they determine how matches count, and how the table is
-    computed."""
+    """Returns, by key, the values that must not change once matches have been played, because they determine how matches count and how the table
+    is computed."""
     form = competition.form
     found = {"form.kind": form.kind, "faults.replaced": competition.faults.replaced}
     found |= {key: getattr(competition, key) for key in ("name", "ids", "seeds", "strikes", "forfeit", "order", "anchor")}

@@ -1,7 +1,7 @@
 """Ends the programs that `play` runs when `play` has ended, even if `play` was killed. The guard needs only Python's standard library.
 
-Each program that `play` runs has a mark in its environment, and passes this mark on to the programs that it starts. The input of this
-program ends when `play` has ended, and when the programs that `play` was starting at that moment have begun."""
+Each program that `play` runs has a mark in its environment, and passes this mark on to the programs that it starts. The standard input of
+the guard ends as soon as `play` has ended, and the programs that `play` was starting at that moment have begun."""
 
 import contextlib
 import os
@@ -28,7 +28,7 @@ def marked(value: str) -> list[int]:
 
 
 def end(process: int, seconds: float) -> None:
-    """Kills a process, and waits until it has ended, but at most this many seconds."""
+    """Kills a process, and waits at most this many seconds until it has ended."""
     descriptor = os.pidfd_open(process)
     try:
         signal.pidfd_send_signal(descriptor, signal.SIGKILL)

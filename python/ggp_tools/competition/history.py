@@ -1,5 +1,5 @@
-"""Reads the history of a competition in its directory. `earlier` has the earlier versions of competition.toml. The name of a version is
-the number of matches that were planned when the next version replaced this version. `again.tsv` has the rematches, with the reasons."""
+"""Reads the history of a competition from its directory. The directory `earlier` has the earlier versions of competition.toml. Each one is named
+after the number of matches that were planned when the next version replaced it. `again.tsv` has the rematches, with the reasons."""
 
 import csv
 import io
@@ -16,8 +16,8 @@ HEAD = b"match\tinstead of\treason\n"
 LINE = re.compile(rb"([A-Za-z0-9_.-]{1,60})\t([A-Za-z0-9_.-]{1,60})\t([\x20-\x7e]{1,200})\n")
 KEY = re.compile(rb"[0-9a-f]{32}\n")
 EARLIER = re.compile(r"([1-9][0-9]{0,5})\.toml")
-# The maximum number of earlier versions, and the maximum number of bytes that they may have in total. Reading a version may take seconds,
-# and `plan` writes one each time that the schedule grows. This number suffices to add the maximum number of players one by one.
+# The maximum number of earlier versions, and the maximum number of bytes of all of them together. Reading a version may take seconds, and
+# `plan` writes one each time that the schedule grows. The first maximum suffices to add the maximum number of players one by one.
 MOST_EARLIER, MOST_OF_EARLIER = MOST_PLAYERS, 64 << 20
 
 
@@ -38,8 +38,8 @@ def read_again(folder: Folder) -> tuple[Again, ...]:
 
 
 def competition_of_file(path: Path, text: bytes, seeds: Path | None = None) -> Competition:
-    """Returns the competition that a competition.toml describes. If the file has `seeds`, and the other competition's table is given, the
-    players are in the order of this table."""
+    """Returns the competition that a competition.toml describes. If the file has the key `seeds`, and the argument `seeds` is the table of the
+    other competition, the players are in the order of this table."""
     try:
         found = read_competition(text)
     except Mistaken as why:
@@ -82,7 +82,7 @@ def read_history(folder: Folder, competition: Competition) -> History:
 
 
 def read_key(folder: Folder, competition: Competition) -> bytes:
-    """Returns the key from which the ids of the matches are computed. If the ids are consecutive numbers, the key is empty."""
+    """Returns the key from which random ids of matches are computed. If the ids are consecutive numbers, the key is empty."""
     if competition.ids != RANDOM_IDS:
         return b""
     if not folder.key.exists():
