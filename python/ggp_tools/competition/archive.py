@@ -97,8 +97,8 @@ def contents(plan: Plan, referee: Referee, results: list[Result], pages: Iterabl
 
 
 def publish(plan: Plan, referee: Referee, results: list[Result], path: pathlib.Path, known: Known) -> str:
-    """Writes the archive, and returns its checksum. The archive of the same files is always the same. Match pages that are up to date are not
-    made again."""
+    """Writes the archive, and returns its checksum. Publishing the same files again produces the same archive. Match pages that are up to
+    date are not made again."""
     pages = Pages(plan, True, known).write(results)
     with written_whole(path) as file:
         files = with_sums(contents(plan, referee, results, pages, known))

@@ -54,7 +54,7 @@ def header(name: str, size: int) -> tarfile.TarInfo:
 
 
 def pack(file: BinaryIO, contents: Iterable[tuple[str, bytes]]) -> None:
-    """Writes an archive of the files in `contents`. The archive of the same contents is always the same."""
+    """Writes an archive of the files in `contents`. Packing the same contents again produces the same archive."""
     size = 0
     with gzip.GzipFile(filename="", mode="wb", fileobj=file, mtime=0, compresslevel=LEVEL) as packed, tarfile.open(fileobj=packed, mode="w|") as archive:
         for name, data in contents:
