@@ -107,8 +107,8 @@ def mistakes_of_addresses(competition: Competition, places_of: dict[str, list[Pl
         places, port = places_of.get(player.name, []), player.address.rpartition(":")[2]
         if "%" in player.address and not places:
             yield Mistake(player.line, "players.address", f"{player.address!r}: this computer has no such interface, or the address is not link-local")
-        elif whys := list(filter(None, map(refusal, places))):
-            yield Mistake(player.line, "players.address", f"{player.address!r}: {whys[0]}")
+        elif reasons := list(filter(None, map(refusal, places))):
+            yield Mistake(player.line, "players.address", f"{player.address!r}: {reasons[0]}")
         elif others := [place for place in places if place in known]:
             other = known[others[0]]
             fault = f"{player.address!r} and {other.address!r}, the address of {other.name}, are the same: {others[0][0]}, port {port}"

@@ -178,8 +178,8 @@ def is_confirmed(match: "Match", event: Event, asked: list[list[Exchange]]) -> b
     role = event.role
     if role >= len(asked) or event.player != match.players[role] or event.number > len(asked[role]):
         return False
-    said = event.kind, event.round, event.message, event.answer, event.error
-    return asked[role][event.number - 1] == said and has_sound_reason(event)
+    logged = event.kind, event.round, event.message, event.answer, event.error
+    return asked[role][event.number - 1] == logged and has_sound_reason(event)
 
 
 def fault_of_run(match: "Match", roles: Sequence[str], run: Sequence[Event], account: bytes) -> str | None:

@@ -364,11 +364,11 @@ def check_one(archive: str, referee: Referee) -> bool:
     """Checks an archive, and returns whether it has errors."""
     from ggp_tools.competition.archive import check_archive
 
-    faults, said = check_archive(pathlib.Path(archive), referee)
+    faults, summary = check_archive(pathlib.Path(archive), referee)
     for fault in faults:
         print(f"ggp_competition: {archive}: {fault}", file=sys.stderr)
     if not faults:
-        say(said)
+        say(summary)
     return bool(faults)
 
 

@@ -18,13 +18,13 @@ END_SECONDS = 15
 
 def marked(value: str) -> list[int]:
     """Returns the processes whose mark is `value`."""
-    mark, found = os.fsencode(f"{MARK}={value}"), []
+    mark, processes = os.fsencode(f"{MARK}={value}"), []
     for file in pathlib.Path("/proc").glob("[0-9]*/environ"):
         # The environments of the processes of other users can't be read.
         with contextlib.suppress(OSError):
             if mark in file.read_bytes().split(b"\0"):
-                found.append(int(file.parent.name))
-    return found
+                processes.append(int(file.parent.name))
+    return processes
 
 
 def end(process: int, seconds: float) -> None:
@@ -42,8 +42,8 @@ def end(process: int, seconds: float) -> None:
 def end_marked(value: str) -> None:
     """Kills the processes whose mark is `value`, and all processes that these processes start meanwhile."""
     until = time.monotonic() + END_SECONDS
-    while (found := marked(value)) and (left := until - time.monotonic()) > 0:
-        for process in found:
+    while (processes := marked(value)) and (left := until - time.monotonic()) > 0:
+        for process in processes:
             with contextlib.suppress(ProcessLookupError):
                 end(process, left)
 

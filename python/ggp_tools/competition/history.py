@@ -31,20 +31,20 @@ def read_again(folder: Folder) -> tuple[Again, ...]:
         return ()
     text = file_bytes(folder.again, MOST_OF_PLANNED + 1)
     lines = [LINE.fullmatch(line) for line in text.removeprefix(HEAD).splitlines(keepends=True)]
-    found = tuple(Again(*(word.decode("ascii") for word in line.groups())) for line in lines if line)
-    if not lines or len(text) > MOST_OF_PLANNED or again_text(found) != text or len({order.match for order in found}) != len(found):
+    orders = tuple(Again(*(word.decode("ascii") for word in line.groups())) for line in lines if line)
+    if not lines or len(text) > MOST_OF_PLANNED or again_text(orders) != text or len({order.match for order in orders}) != len(orders):
         raise Refused(f"{folder.again} is not what `ggp_competition again` writes")
-    return found
+    return orders
 
 
 def competition_of_file(path: Path, text: bytes, seeds: Path | None = None) -> Competition:
     """Returns the competition that a competition.toml describes. If the file has the key `seeds`, and the argument `seeds` is the table of the
     other competition, the players are in the order of this table."""
     try:
-        found = read_competition(text)
+        competition = read_competition(text)
     except Mistaken as why:
         raise Refused(mistake_lines(path, why.mistakes)) from None
-    return seeded(found, seeds) if seeds and found.seeds else found
+    return seeded(competition, seeds) if seeds and competition.seeds else competition
 
 
 def seeded(competition: Competition, path: Path) -> Competition:
@@ -65,15 +65,15 @@ def seeded(competition: Competition, path: Path) -> Competition:
 def earlier_files(folder: Folder, *new: int) -> list[Path]:
     """Returns the earlier versions of competition.toml, the oldest first. Refuses too many files, or too many bytes in total. `new` has the
     sizes of the versions that will be added."""
-    found = [file for file in folder.earlier.iterdir() if not file.name.startswith(UNFINISHED)] if folder.earlier.is_dir() else []
-    for file in found:
+    files = [file for file in folder.earlier.iterdir() if not file.name.startswith(UNFINISHED)] if folder.earlier.is_dir() else []
+    for file in files:
         if not EARLIER.fullmatch(file.name):
             raise Refused(f"{file} is not one of the earlier files of the competition")
-    sizes = [*(file.stat().st_size for file in found), *new]
+    sizes = [*(file.stat().st_size for file in files), *new]
     if len(sizes) > MOST_EARLIER or sum(sizes) > MOST_OF_EARLIER:
         words = f"{folder.earlier}: expected at most {MOST_EARLIER:,} files with {MOST_OF_EARLIER:,} bytes in total"
         raise Refused(f"{words}, found {len(sizes):,} with {sum(sizes):,}", "the schedule can't grow any more; begin another competition")
-    return sorted(found, key=lambda file: int(file.stem))
+    return sorted(files, key=lambda file: int(file.stem))
 
 
 def read_history(folder: Folder, competition: Competition) -> History:

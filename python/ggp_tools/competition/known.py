@@ -52,9 +52,9 @@ class Facts(pickle.Unpickler):
 
     def find_class(self, module: str, name: str) -> typing.Any:
         if module.startswith("ggp_tools.") and "." not in name:
-            found = super().find_class(module, name)
-            if isinstance(found, type) and dataclasses.is_dataclass(found):
-                return found
+            fact_type = super().find_class(module, name)
+            if isinstance(fact_type, type) and dataclasses.is_dataclass(fact_type):
+                return fact_type
         elif (module, name) in self.TYPES:
             return super().find_class(module, name)
         raise pickle.UnpicklingError(f"{module}.{name} is not a fact")

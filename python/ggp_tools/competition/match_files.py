@@ -165,15 +165,15 @@ def key_of_files(rule: bytes, match: Match, record: bytes, account: bytes | None
 
 def known_checks(plan: "Plan", referee: Referee, game: str, matches: Sequence[Match], known: Known) -> dict[str, Check]:
     """Returns, by match id, the checks of those matches of a game whose results are cached."""
-    rule, rules, found = sum_of_rule(plan, referee, game), plan.rules[game].text, {}
+    rule, rules, by_id = sum_of_rule(plan, referee, game), plan.rules[game].text, {}
     for match in matches if rule else ():
         record = record_bytes(plan.folder, match.id, rules)
         key = key_of_files(rule, match, record, account_bytes(plan.folder, match.id))
         if result := known.get("results", key):
             is_same = result.has_forfeits == plan.competition.forfeit
-            found[match.id] = Check(match, result=result if is_same else replace(result, has_forfeits=plan.competition.forfeit))
+            by_id[match.id] = Check(match, result=result if is_same else replace(result, has_forfeits=plan.competition.forfeit))
             known.checked[match.id] = key, record_sum(record)
-    return found
+    return by_id
 
 
 def checks(plan: "Plan", referee: Referee, game: str, matches: Sequence[Match], known: Known | None = None) -> list[Check]:
@@ -225,9 +225,9 @@ def check_records(plan: "Plan", referee: Referee, known: Known | None = None) ->
     done, parts = [], []
     try:
         for game, matches in by_game.items():
-            found = known_checks(plan, referee, game, matches, known) if known and known.facts("results") else {}
-            done += found.values()
-            parts += [(game, batch) for batch in batches((match for match in matches if match.id not in found), size_of_match)]
+            from_cache = known_checks(plan, referee, game, matches, known) if known and known.facts("results") else {}
+            done += from_cache.values()
+            parts += [(game, batch) for batch in batches((match for match in matches if match.id not in from_cache), size_of_match)]
         done += itertools.chain.from_iterable(in_threads(check_batch, parts))
     except MemoryError:
         raise Unchecked("records and call logs can't be checked: out of memory") from None

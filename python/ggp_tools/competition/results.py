@@ -66,7 +66,7 @@ class Result:
     def forfeits(self) -> dict[int, Retirement]:
         """Returns the roles whose players have forfeited the match, with the reasons."""
         retired = self.retirements if self.has_forfeits else ()
-        return {role: why for whys in (self.lapses, retired) for role, why in enumerate(whys) if why}
+        return {role: why for reasons in (self.lapses, retired) for role, why in enumerate(reasons) if why}
 
     def counted(self) -> tuple[int | None, ...]:
         """Returns the goals that count, by role. If the match has no goals and no forfeits, each goal is None. A player that forfeits gets 0. A

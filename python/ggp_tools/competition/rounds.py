@@ -45,15 +45,15 @@ class Scores:
         self.opponents: dict[str, list[str]] = defaultdict(list)
         self.met: Counter[frozenset[str]] = Counter()
 
-    def count_round(self, found: Round, withdrawn: Mapping[str, str], of_meeting: Mapping[Meeting, list[Result]]) -> None:
+    def count_round(self, planned: Round, withdrawn: Mapping[str, str], of_meeting: Mapping[Meeting, list[Result]]) -> None:
         """Counts the pairs and the byes of a round. If a match is not played or does not count because a player has withdrawn, the other player
         gets a point for it, as in a bye."""
-        for bye in found.byes:
+        for bye in planned.byes:
             self.byes[bye] += 1
             self.points[bye] += self.meeting
-        for pair in found.pairs:
+        for pair in planned.pairs:
             self.met[frozenset(pair)] += 1
-            lacking = self.meeting - len(of_meeting[found.number, frozenset(pair)]) if withdrawn.keys() & pair else 0
+            lacking = self.meeting - len(of_meeting[planned.number, frozenset(pair)]) if withdrawn.keys() & pair else 0
             for name, opponent in (pair, pair[::-1]):
                 if lacking < self.meeting:
                     self.opponents[name].append(opponent)
@@ -101,7 +101,7 @@ def matches_to_come(competition: Competition, rounds: Sequence[Round]) -> int:
 
 def withdrawn_by(competition: Competition, rounds: Iterable[Round]) -> dict[str, str]:
     """Returns the players that have withdrawn, or that were withdrawn before one of `rounds`, each with the reason."""
-    return {name: why for found in rounds for name, why in found.absent} | competition.withdrawn()
+    return {name: why for planned in rounds for name, why in planned.absent} | competition.withdrawn()
 
 
 def withdrawn_words(name: str, why: str) -> str:
@@ -171,7 +171,7 @@ def knockout_round(size: int, names: Sequence[str], before: Sequence[Round], win
     """Returns the next round of a knockout. `size` is the number of its players, and `names` has them in the order of their seeds. The rounds
     `before` are over, and `winners` are the winners of the last one."""
     places: list[str | None] = [names[seed] if seed < len(names) else None for seed in bracket(size)]
-    for going_on in [*(found.players() for found in before[1:]), {*winners, *before[-1].byes}] if before else ():
+    for going_on in [*(earlier.players() for earlier in before[1:]), {*winners, *before[-1].byes}] if before else ():
         places = [next((name for name in pair if name and name in going_on), None) for pair in zip(places[::2], places[1::2])]
     places = [None if name in withdrawn else name for name in places]
     pairs = list(zip(places[::2], places[1::2]))
@@ -203,10 +203,10 @@ class Rounds:
             self.scores = scores_of(competition, self.found, self.results, withdrawn)
         self.withdrawn = withdrawn
         if len(self.found) < swiss_rounds(competition):
-            found = swiss_round(competition, len(self.found) + 1, self.scores, withdrawn)
+            following = swiss_round(competition, len(self.found) + 1, self.scores, withdrawn)
         else:
-            found = self.next_of_knockout(competition, by_meeting(results))
-        return replace(found, number=len(self.found) + 1, absent=tuple(new.items()))
+            following = self.next_of_knockout(competition, by_meeting(results))
+        return replace(following, number=len(self.found) + 1, absent=tuple(new.items()))
 
     def next_of_knockout(self, competition: Competition, of_meeting: Mapping[Meeting, list[Result]]) -> Round:
         """Returns the next round of a knockout: between all players, or between the best players of the earlier rounds."""
@@ -228,9 +228,9 @@ class Rounds:
                 plays[player].append(result.is_absent(role))
         self.absences.update(player for player, absences in plays.items() if all(absences))
 
-    def add(self, found: Round) -> None:
-        self.found.append(found)
-        self.scores.count_round(found, {}, {})
+    def add(self, planned: Round) -> None:
+        self.found.append(planned)
+        self.scores.count_round(planned, {}, {})
 
 
 def scores_and_seeds(competition: Competition, rounds: Sequence[Round], results: Iterable[Result]) -> tuple[Scores, list[str]]:
@@ -242,29 +242,29 @@ def scores_and_seeds(competition: Competition, rounds: Sequence[Round], results:
 
 
 def by_meeting(results: Iterable[Result]) -> dict[Meeting, list[Result]]:
-    found: dict[Meeting, list[Result]] = defaultdict(list)
+    grouped: dict[Meeting, list[Result]] = defaultdict(list)
     for result in results:
-        found[result.match.round, frozenset(result.match.players)].append(result)
-    return found
+        grouped[result.match.round, frozenset(result.match.players)].append(result)
+    return grouped
 
 
 def rounds_won(competition: Competition, rounds: Sequence[Round], results: Iterable[Result], seeds: Sequence[str]) -> Counter[str]:
     """Returns how many rounds of the knockout each player has won, by a bye or by a pairing that is over."""
     of_meeting, withdrawn, rounds_of_it = by_meeting(results), withdrawn_by(competition, rounds), rounds[swiss_rounds(competition) :]
     won = Counter(dict.fromkeys(rounds_of_it[0].players(), 0) if rounds_of_it else {})
-    for found, following in itertools.zip_longest(rounds_of_it, rounds_of_it[1:]):
-        won.update(found.byes)
-        for pair in found.pairs:
-            of_pair = of_meeting[found.number, frozenset(pair)]
+    for current, following in itertools.zip_longest(rounds_of_it, rounds_of_it[1:]):
+        won.update(current.byes)
+        for pair in current.pairs:
+            of_pair = of_meeting[current.number, frozenset(pair)]
             going_on = following.players().intersection(pair) if following else ()
             if going_on or len(of_pair) == 2 * len(competition.games) or withdrawn.keys() & pair:
                 won.update([*going_on] or filter(None, [winner(pair, of_pair, Scores(competition), withdrawn, seeds)]))
     return won
 
 
-def meetings(competition: Competition, found: Round) -> list[tuple[str, tuple[str, str]]]:
+def meetings(competition: Competition, planned: Round) -> list[tuple[str, tuple[str, str]]]:
     """Returns the matches of a round: for each game, all pairs in one order of the roles, and then all pairs in the other order."""
-    return [(game.name, pair[::turn]) for game in competition.games for turn in (1, -1) for pair in found.pairs]
+    return [(game.name, pair[::turn]) for game in competition.games for turn in (1, -1) for pair in planned.pairs]
 
 
 def scores_of(competition: Competition, rounds: Sequence[Round], results: Iterable[Result], withdrawn: Mapping[str, str] | None = None) -> Scores:
@@ -273,8 +273,8 @@ def scores_of(competition: Competition, rounds: Sequence[Round], results: Iterab
     withdrawn = withdrawn_by(competition, rounds) if withdrawn is None else withdrawn
     scores, counted = Scores(competition), [result for result in results if not competition.is_void(result.match.players, withdrawn)]
     of_meeting = by_meeting(counted)
-    for found in rounds:
-        scores.count_round(found, withdrawn, of_meeting)
+    for planned in rounds:
+        scores.count_round(planned, withdrawn, of_meeting)
     for result in counted:
         scores.count_result(result)
     return scores

@@ -139,7 +139,7 @@ def count_rounds(table: Table, competition: Competition, results: Iterable[Resul
     scores, seeds = scores_and_seeds(competition, table.rounds, counted)
     won = rounds_won(competition, table.rounds, counted, seeds)
     for player, line in table.lines.items():
-        line.byes = sum(player in found.byes for found in table.rounds) if not swiss else scores.byes[player]
+        line.byes = sum(player in planned.byes for planned in table.rounds) if not swiss else scores.byes[player]
         if swiss:
             line.round_points, line.buchholz = scores.points[player], scores.buchholz(player)
         line.rounds_won = won.get(player, None if swiss else 0)

@@ -28,12 +28,12 @@ METHOD = (
 def forfeit_rule(competition: Competition) -> str:
     """Explains how a player forfeits a match, and which goals count then. If no player can forfeit a match, the text is empty."""
     most = competition.faults.replaced
-    whys = ["it was retired"] * competition.forfeit + [f"{most:,} or more of its moves were replaced (forced moves do not count)"] * bool(most)
+    conditions = ["it was retired"] * competition.forfeit + [f"{most:,} or more of its moves were replaced (forced moves do not count)"] * bool(most)
     counts = (
         f"It then gets 0. In a match of two players its opponent gets {FULL_GOAL}. "
         f"In a larger match the others keep their goals; if that match was aborted, they share {FULL_GOAL}."
     )
-    return f"A player loses a match if {', or if '.join(whys)}. {counts}" if whys else ""
+    return f"A player loses a match if {', or if '.join(conditions)}. {counts}" if conditions else ""
 
 
 def method_of(competition: Competition) -> str:
@@ -217,8 +217,8 @@ def joined(plans: Sequence[Plan]) -> Plan:
         return plans[0]
     first, competitions, rules = plans[0].competition, [plan.competition for plan in plans], {}
     names = [competition.name for competition in competitions]
-    if twice := [name for name in names if names.count(name) > 1]:
-        raise Refused(f"two of the directories have a competition named {twice[0]}; a joint table needs different names")
+    if repeated := [name for name in names if names.count(name) > 1]:
+        raise Refused(f"two of the directories have a competition named {repeated[0]}; a joint table needs different names")
     for plan in plans:
         for name, ground in plan.rules.items():
             if rules.setdefault(name, ground).sum != ground.sum:

@@ -69,8 +69,8 @@ def refuse_too_many(text: str) -> None:
 def fault_of(text: str, why: str) -> TomlFault:
     """Turns a message of Python's parser into an error with the line that the message names."""
     lines = text.split("\n")
-    found = PLACE.search(why)
-    line = min(int(found[1]), len(lines)) if found else len(lines)
+    place = PLACE.search(why)
+    line = min(int(place[1]), len(lines)) if place else len(lines)
     key = KEY.match(lines[line - 1])
     return TomlFault(line, key[1] if key else "", f"this is not TOML: {why}")
 
