@@ -109,7 +109,7 @@ def write_first_file(asked: argparse.Namespace) -> pathlib.Path:
     if not asked.games and not asked.form and sys.stdin.isatty():
         ask_for_the_rest(asked)
     if not asked.games or not asked.form:
-        raise Refused(f"--games, and one of {', '.join(f'--{form}' for form in FORMS)}, are needed")
+        raise Refused(f"expected --games, and one of {', '.join(f'--{form}' for form in FORMS)}")
     text = text_of(asked, folder.path)
     try:
         read_competition(text.encode())

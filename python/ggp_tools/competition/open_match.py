@@ -180,7 +180,7 @@ class OpenMatch:
             self.why, self.is_broken = done.message(), True
             # A started player may run as the same user, so it may have killed the referee.
             if done.status < 0 and (started := [player.name for player in self.players.of(self.match.players)]):
-                self.why += f"; started players that ran: {', '.join(started)}"
+                self.why += f"; these started players were running: {', '.join(started)}"
         return None if done.status else done.output
 
     async def play_elsewhere(self) -> bytes | None:

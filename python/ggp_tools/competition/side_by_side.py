@@ -40,4 +40,4 @@ def made_side_by_side(function: Callable[..., object], calls: Sequence[tuple]) -
         try:
             yield from pool.map(called, range(len(calls)), chunksize=CHUNK)
         except concurrent.futures.process.BrokenProcessPool:
-            raise Unchecked("matches can't be checked, or pages made: a process was killed, for example because memory is short") from None
+            raise Unchecked("matches can't be checked, or pages can't be made: a process was killed, for example because it was out of memory") from None

@@ -127,7 +127,7 @@ class Explanation:
         """Explains a message to a role, and the answer. If `counts` is set and there is a record, also says which move was played."""
         head = f"turn {message.turn()}: {PLAY}" if message.kind == PLAY else str(message.kind)
         came = message_of(message.came())
-        text = f"{head} brought {came} after {message.ms} ms" if message.error else f"{head} was answered `{came}` after {message.ms} ms"
+        text = f"{head} failed with {came} after {message.ms} ms" if message.error else f"{head} was answered `{came}` after {message.ms} ms"
         mark = self.mark_of(message) if counts else None
         if self.record and counts and message.kind == PLAY:
             text += f"; {self.turn_text(message.role, message.round, message.answer or '')}"
