@@ -165,7 +165,7 @@ class Whole(WithMatch):
         self.assertTrue((self.open.directory / "players").exists())
 
     def test_if_the_referee_was_killed_the_started_players_are_named(self):
-        for status, started, why in ((-9, ["bob"], "it was killed by signal 9 (SIGKILL), without a message; started players that ran: bob"), (-9, [], "it was killed by signal 9 (SIGKILL), without a message"), (3, ["bob"], "it ended with status 3, without a message")):
+        for status, started, why in ((-9, ["bob"], "it was killed by signal 9 (SIGKILL), without a message; these started players were running: bob"), (-9, [], "it was killed by signal 9 (SIGKILL), without a message"), (3, ["bob"], "it ended with status 3, without a message")):
             self.begin(self.HEAD)
             self.laid_down["played"] = (status, b"", "")
             with mock.patch.object(self.open.players, "of", lambda names: [types.SimpleNamespace(name=name, matches=set()) for name in started]), mock.patch.object(self.open.players, "ready", mock.AsyncMock()):

@@ -182,7 +182,7 @@ class Rules(InArchive):
         ):
             self.assertIn(refused, self.refused("init", "other", *words[2:], *more))
         for more in ([], ["--games", "countdown"], ["--knockout"]):
-            self.assertIn("--games, and one of --round-robin, --swiss, --gauntlet, --knockout, are needed", self.refused("init", "other", *more))
+            self.assertIn("expected --games, and one of --round-robin, --swiss, --gauntlet, --knockout", self.refused("init", "other", *more))
         self.assertFalse((self.folder / "other").exists())
         self.folder /= "cup"
         for command in (["plan"], ["play"], ["publish"], ["check", "cup.tar.gz"]):

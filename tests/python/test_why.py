@@ -167,8 +167,8 @@ class Why(InFolder):
         for words in ("turn 1: PLAY was answered `TO` after", "turn 2: PLAY was answered `lost` after", "turn 2: PLAY was answered `CE` after"):
             self.assertIn(words, said)
         for message, seconds in (("START", 20), ("turn 3: PLAY", 30), ("STOP", 30)):
-            self.assertIn(f"{message} brought {SILENT} after 5 ms; TO: no complete answer within {seconds} s", said)
-        self.assertIn("turn 3: PLAY brought CE (no connection) after", said)
+            self.assertIn(f"{message} failed with {SILENT} after 5 ms; TO: no complete answer within {seconds} s", said)
+        self.assertIn("turn 3: PLAY failed with CE (no connection) after", said)
         # If a player sends exactly this text, it counts as an answer.
         text = "IL ?: the answer is not one expression, or too long: a second expression begins at column 4; its first legal move was played"
         self.assertIn(f"turn 4: PLAY was answered `{SILENT}` after 5 ms; {text}", said)

@@ -1,4 +1,4 @@
-"""Finds the addresses of the players: which of them the system refuses, and which lead to the same player."""
+"""Looks up the addresses of the players. Reports addresses that can't be used, and addresses that several players share."""
 
 import errno
 import ipaddress
@@ -9,10 +9,10 @@ from collections.abc import Iterable, Iterator
 
 from ggp_tools.competition.competition_file import Competition, Mistake, Player
 
-# The time limit of all lookups together, in seconds, because a resolver may not answer.
+# The time limit for all lookups together, in seconds. A resolver may never answer.
 SECONDS = 10
 LOOPBACK = {4: "127.0.0.1", 6: "::1"}
-# An address and a port. If the address needs an interface, it includes the interface.
+# An address and a port. A link-local IPv6 address includes its interface, for example `fe80::1%2`.
 Place = tuple[str, int]
 
 
@@ -34,7 +34,7 @@ def addresses_of(host: str, flags: int = 0) -> list[str]:
 
 
 def looked_up(hosts: Iterable[str]) -> dict[str, list[str]]:
-    """Returns the addresses of hosts. If the lookup of a name takes too long, the name has no addresses."""
+    """Returns the addresses of each host. A host whose lookup takes too long has none."""
     addresses = {host: addresses_of(host, socket.AI_NUMERICHOST) for host in hosts}
 
     def look_up(name: str) -> None:
@@ -51,7 +51,7 @@ def looked_up(hosts: Iterable[str]) -> dict[str, list[str]]:
 
 
 def are_same(one: str, other: str) -> bool:
-    """Returns whether two texts HOST:PORT currently have an address in common. The hosts are looked up only if the ports are the same."""
+    """Returns whether two texts of the form HOST:PORT lead to the same address at present. Looks up the hosts only if the ports are equal."""
     (host, _, port), (other_host, _, other_port) = one.rpartition(":"), other.rpartition(":")
     if int(port) != int(other_port):
         return False
@@ -60,7 +60,7 @@ def are_same(one: str, other: str) -> bool:
 
 
 def refusal(place: Place) -> str:
-    """Returns the reason why the system refuses connections to the address `place`, or an empty text. The check sends nothing."""
+    """Returns the reason why the system refuses connections to `place`, or an empty text if it does not. The check sends nothing."""
     address = ipaddress.ip_address(place[0])
     if address.is_multicast:
         return "a multicast address accepts no connection"
@@ -79,7 +79,7 @@ def refusal(place: Place) -> str:
 
 
 def places_now(competition: Competition) -> dict[str, list[Place]]:
-    """Returns the current addresses of each player, by name. A player that the competition starts has none yet."""
+    """Returns the current addresses of each player, by name. Players that the competition starts are left out: they have no address yet."""
     hosts = {player.name: player.address.rpartition(":") for player in competition.players if not player.command}
     addresses = looked_up(host for host, _, _ in hosts.values())
     return {name: [(address, int(port)) for address in dict.fromkeys(addresses[host])] for name, (host, _, port) in hosts.items()}
@@ -94,21 +94,21 @@ def takes_connections(place: Place) -> bool:
 
 
 def written(name: str, places: list[Place]) -> str:
-    """Returns a player as an argument for the referee. The argument contains the first of the player's addresses that accepts a connection
-    now, or the first address if none does."""
+    """Formats a player as an argument for the referee. The argument contains the first of the player's addresses that now accepts a
+    connection, or the first address if none does."""
     host, port = next(filter(takes_connections, places), places[0]) if len(places) > 1 else places[0]
     return f"{name}@[{host}]:{port}" if ":" in host else f"{name}@{host}:{port}"
 
 
 def mistakes_of_addresses(competition: Competition, places_of: dict[str, list[Place]]) -> Iterator[Mistake]:
-    """Yields a mistake for each player that cannot be reached at its addresses, and for each player that shares an address with another."""
+    """Yields a mistake for each player whose address can't be used, and for each player that shares an address with an earlier one."""
     known: dict[Place, Player] = {}
     for player in competition.players:
         places, port = places_of.get(player.name, []), player.address.rpartition(":")[2]
         if "%" in player.address and not places:
             yield Mistake(player.line, "players.address", f"{player.address!r}: this computer has no such interface, or the address is not link-local")
-        elif whys := list(filter(None, map(refusal, places))):
-            yield Mistake(player.line, "players.address", f"{player.address!r}: {whys[0]}")
+        elif reasons := list(filter(None, map(refusal, places))):
+            yield Mistake(player.line, "players.address", f"{player.address!r}: {reasons[0]}")
         elif others := [place for place in places if place in known]:
             other = known[others[0]]
             fault = f"{player.address!r} and {other.address!r}, the address of {other.name}, are the same: {others[0][0]}, port {port}"

@@ -64,7 +64,7 @@ Content = tuple[str, Data]
 
 
 def files_below(folder: pathlib.Path) -> dict[str, pathlib.Path]:
-    """Returns the files below a directory, in order, each under its path relative to the directory."""
+    """Returns the files below a directory, in order, by their paths relative to the directory."""
     return {str(file.relative_to(folder)): file for file in sorted(folder.rglob("*")) if file.is_file()}
 
 
@@ -97,8 +97,8 @@ def contents(plan: Plan, referee: Referee, results: list[Result], pages: Iterabl
 
 
 def publish(plan: Plan, referee: Referee, results: list[Result], path: pathlib.Path, known: Known) -> str:
-    """Writes the archive, and returns its checksum. The same files always give the same archive. If the page of a match already exists, it
-    is not made again."""
+    """Writes the archive, and returns its checksum. Publishing the same files again produces the same archive. Match pages that are up to
+    date are not made again."""
     pages = Pages(plan, True, known).write(results)
     with written_whole(path) as file:
         files = with_sums(contents(plan, referee, results, pages, known))
@@ -123,7 +123,7 @@ def with_sums(contents: Iterable[Content]) -> Iterator[tuple[str, bytes]]:
 
 
 def faults_of_sums(folder: pathlib.Path) -> Iterator[str]:
-    """Yields an error for each file that does not agree with the checksums."""
+    """Yields an error for each file that is missing, has no checksum, or does not match its checksum."""
     files = files_below(folder)
     if SUMS not in files:
         yield f"{SUMS} is missing"
@@ -142,7 +142,7 @@ def faults_of_sums(folder: pathlib.Path) -> Iterator[str]:
 
 
 def has_bytes(file: pathlib.Path, data: bytes) -> bool:
-    """Returns whether the file has exactly the bytes `data`. If the file has another size, it is not read, because it may be huge."""
+    """Returns whether the contents of the file are `data`. A file of another size is not read, because it may be huge."""
     return file.stat().st_size == len(data) and file.read_bytes() == data
 
 
@@ -181,7 +181,7 @@ def faults_of_matches(plan: Plan, referee: Referee) -> tuple[list[Result], list[
 
 
 def version_of(folder: pathlib.Path) -> str:
-    """Returns the version of the program with which an archive was published. Refuses an archive whose logs only an earlier version can read."""
+    """Returns the version of the program that published an archive. Refuses an archive whose logs only an earlier version can read."""
     version = file_bytes(folder / VERSION, MOST_OF_VERSION) if (folder / VERSION).is_file() else b""
     if not VERSION_LINE.fullmatch(version):
         raise Spoilt(f"{VERSION} is not one line of the form `ggp_manager N.N.N`" if version else f"{VERSION} is missing")
@@ -192,8 +192,8 @@ def version_of(folder: pathlib.Path) -> str:
 
 
 def check_archive(path: pathlib.Path, referee: Referee) -> tuple[list[str], str]:
-    """Returns the errors in an archive, as lines of printable ASCII of limited length. If there are no errors, also returns a sentence
-    about the checks."""
+    """Checks an archive. Returns its errors, as lines of printable ASCII of limited length, and, if there are none, a sentence that sums up
+    the checks."""
     try:
         with tempfile.TemporaryDirectory() as empty:
             try:
@@ -213,7 +213,7 @@ def check_archive(path: pathlib.Path, referee: Referee) -> tuple[list[str], str]
 
 
 def compared_side_by_side(file: pathlib.Path, records: Sequence[bytes]) -> list[str]:
-    """Returns the result of comparing each record with a description. Each of several processes compares a part of the records."""
+    """Compares records with a description, in several processes. Returns the result for each record."""
     size = -(-len(records) // PROCESSORS)
     parts = [records[at : at + size] for at in range(0, len(records), size)]
     with concurrent.futures.ThreadPoolExecutor(PROCESSORS) as pool:
@@ -244,7 +244,8 @@ def refuse(faults: Iterable[str]) -> None:
 
 
 def what_is_right(path: pathlib.Path, empty: pathlib.Path, referee: Referee) -> str:
-    """Unpacks an archive into an empty directory, checks it, and returns a sentence about the checks. Raises `Refused` with all errors."""
+    """Unpacks an archive into an empty directory, and checks it. Returns a sentence that sums up the checks, or raises `Refused` with the
+    errors."""
     folder = unpack(path, empty)
     made_by = version_of(folder)
     refuse(faults_of_sums(folder))

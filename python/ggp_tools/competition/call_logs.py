@@ -32,7 +32,7 @@ MOST_CALLS = 1_000_000
 # Matches any call. The group is the id of the call's match.
 MATCH = re.compile(rb"\d+\t[a-z]+ ([^ \t]+)[ \t]")
 ESCAPED = re.compile(r"\\x([0-9a-f]{2})")
-# The parts of the reasons that the referee gives for an error (docs/ERRORS.md), with N in place of each number. After a failed read, one
+# The parts of the reasons that the referee reports for an error (docs/ERRORS.md), with N in place of each number. After a failed read, one
 # more word names the kind of failure.
 REASONS = {
     *("the host has no address", "no connection", "no answer in time", "the answers of the match are too long", "a write failed", "a read failed"),
@@ -58,8 +58,8 @@ def lines_of(account: bytes) -> Iterator[bytes]:
 
 
 class Asked:
-    """The calls so far: for each role the round whose answer is awaited, how often the role got `hold` in a round, and whether its part is
-    over."""
+    """The state of a match after the calls so far: for each role, the round whose answer is due, how often the role got `hold` in its current round, and
+    whether its part is over."""
 
     def __init__(self, opening: re.Match[bytes]) -> None:
         is_strict, self.match, start, play, players = opening.groups()
@@ -73,13 +73,13 @@ class Asked:
         return match == self.match and int(line) == int(role) + 1 and role not in self.over
 
     def may_hold(self, role: bytes, hold: bytes) -> bool:
-        """Counts a reply that makes a role wait. Returns whether a referee could ask this often for the role in this round."""
+        """Counts a `hold` reply, which makes a role wait. Returns whether a referee could ask for the role this often in one round."""
         before, count = self.holds.get(role, (hold, 0))
         self.holds[role] = hold, count + 1 if before == hold else 1
         return self.holds[role][1] <= MOST_HOLDS + self.clocks[hold != b"hold 0"] + 2 * self.roles
 
     def is_next(self, text: bytes) -> bool:
-        """Returns whether `text`, a row of the call log, is the next call that a referee makes for the role in this row."""
+        """Returns whether `text`, a row of the call log, is a call that the referee would make next for the role that the row names."""
         if call := NEXT.fullmatch(text):
             role = call[3]
             if not self.is_of_role(call[1], call[2], role) or role in self.rounds:
@@ -100,8 +100,8 @@ def shown(text: bytes) -> str:
 
 
 def fault_of_account(account: bytes) -> str | None:
-    """If a row of a call log is not a call by the referee of the match, returns an error about the first such row. Otherwise returns
-    None."""
+    """Returns an error about the first row of a call log that is not a call by the referee of the match, or an error if the call log ends too
+    early. Otherwise returns None."""
     lines = lines_of(account)
     first = next(lines, b"")
     opening = OPENING.fullmatch(first)
@@ -130,7 +130,7 @@ class Exchange(NamedTuple):
 
 
 def unescaped(text: bytes | None) -> str:
-    """Returns a text of a call log, in which each character stands for a byte."""
+    """Decodes a text of a call log. Each character of the result is one byte of the text."""
     return ESCAPED.sub(lambda escape: chr(int(escape[1], 16)), (text or b"").decode("ascii", "replace"))
 
 
@@ -158,7 +158,7 @@ def exchanges(match: "Match", roles: Sequence[str], account: bytes) -> list[list
 
 
 def unpublished(log: bytes, run: Sequence[Event]) -> str | None:
-    """If `publish` would omit or change a line of a match log, returns an error about the first such line. Otherwise returns None."""
+    """Returns an error about the first line of a match log that `publish` would leave out or change, or None if there is no such line."""
     lines = itertools.zip_longest(io.BytesIO(log), map(line_of, run), fillvalue=b"")
     number, line = next(((number, given) for number, (given, kept) in enumerate(lines, 1) if given != kept), (0, b""))
     text = message_of(line.decode("ascii", "replace").rstrip())
@@ -166,24 +166,24 @@ def unpublished(log: bytes, run: Sequence[Event]) -> str | None:
 
 
 def has_sound_reason(message: Message) -> bool:
-    """Returns False if the message has no error but a reason, or has a reason that the referee never gives."""
+    """Returns whether a message has no reason, or has an error with a reason that the referee can report."""
     parts = NUMBER.sub("N", message.reason).split(": ") if message.reason is not None else []
     return not parts or message.error is not None and all(part in REASONS or KIND.fullmatch(part) for part in parts)
 
 
 def is_confirmed(match: "Match", event: Event, asked: list[list[Exchange]]) -> bool:
-    """Returns whether a call log agrees with an event of a run."""
+    """Returns whether an event of a run agrees with the exchanges of the call log, which are given by role."""
     if not isinstance(event, Message):
         return not isinstance(event, End) or event.kind in {exchange.kind for of_role in asked for exchange in of_role}
     role = event.role
     if role >= len(asked) or event.player != match.players[role] or event.number > len(asked[role]):
         return False
-    said = event.kind, event.round, event.message, event.answer, event.error
-    return asked[role][event.number - 1] == said and has_sound_reason(event)
+    logged = event.kind, event.round, event.message, event.answer, event.error
+    return asked[role][event.number - 1] == logged and has_sound_reason(event)
 
 
 def fault_of_run(match: "Match", roles: Sequence[str], run: Sequence[Event], account: bytes) -> str | None:
-    """Returns an error about the first line of a match log that the match's call log does not confirm, or None."""
+    """Returns an error about the first line of a match log that does not agree with the call log, or None if there is no such line."""
     asked, has_end = exchanges(match, roles, account), False
     for number, event in enumerate(run, 1):
         is_second = has_end and isinstance(event, End)

@@ -28,8 +28,8 @@ class Checked(NamedTuple):
 
 
 class Checking:
-    """The matches whose files the referee has not checked yet. When a check of a game's matches ends, the referee checks all matches of
-    this game together that have ended in the meantime. This takes about as long as the check of one match."""
+    """Has the referee check the files of matches. While it checks matches of a game, other matches of the game may end. The referee then
+    checks all of these together, which takes about as long as checking one."""
 
     def __init__(self, plan: Plan, referee: Referee) -> None:
         self.plan, self.referee = plan, referee
@@ -39,17 +39,16 @@ class Checking:
         self.locks: dict[str, asyncio.Lock] = collections.defaultdict(asyncio.Lock)
 
     async def check(self, match: Match, output: bytes, log: pathlib.Path) -> Checked:
-        """Has the referee verify the record and replay the call log in the output of a match. Compares the match with the description of
-        its game. Writes the files only then."""
+        """Has the referee verify the record and replay the call log in the output of a match, compares the match with the description of its
+        game, and then writes the files of the match."""
         line, end, account = output.partition(b"\n")
         files = line + end, account
         fault = await self.fault_of(match, files)
-        # Threads do this, because they wait for the disk.
+        # This waits for the disk, so it runs in a thread.
         return await asyncio.to_thread(keep_if_right, self.plan, match, files, log, fault)
 
     async def fault_of(self, match: Match, files: tuple[bytes, bytes]) -> str | Unchecked | None:
-        """Returns the error in the files of a match. If the referee gives no verdict, returns the reason. If there is no error, returns
-        None."""
+        """Returns the error in the files of a match, or the reason why the referee has no verdict, or None if there is no error."""
         self.waiting[match] = files
         try:
             async with self.locks[match.game]:
@@ -66,13 +65,13 @@ class Checking:
 
 
 def faults_of(plan: Plan, referee: Referee, game: str, files: Sequence[tuple[bytes, bytes]]) -> list[str | Unchecked | None]:
-    """Returns, for each match of a game, the error in the files of the match, or the reason why the referee gives no verdict, or None."""
+    """Returns, for each match of a game, the error in its files, or the reason why the referee has no verdict, or None if there is no error."""
     faults: list[str | Unchecked | None] = [fault_of_files(*each, plan.rules[game].text) for each in files]
     sound = [at for at, fault in enumerate(faults) if not fault]
     try:
         verdicts = referee_faults(plan, referee, game, *zip(*(files[at] for at in sound))) if sound else []
     except Unchecked as why:
-        # Of several matches, perhaps only one is the reason.
+        # Perhaps only one of the matches is the reason, so each is checked separately.
         verdicts = [why] if len(sound) == 1 else [faults_of(plan, referee, game, [files[at]])[0] for at in sound]
     for at, verdict in zip(sound, verdicts):
         faults[at] = verdict
@@ -80,7 +79,8 @@ def faults_of(plan: Plan, referee: Referee, game: str, files: Sequence[tuple[byt
 
 
 def keep_if_right(plan: Plan, match: Match, files: tuple[bytes, bytes], open_log: pathlib.Path, fault: str | Unchecked | None) -> Checked:
-    """Writes the files of a match, unless they have an error. If the referee gave no verdict, the files get the ending `.unchecked`."""
+    """Writes the files of a match, unless they have an error. If the referee has no verdict, the names of the files end with `.unchecked`. If the
+    match differs from the description of its game, they end with `.differs`."""
     (record, account), log = files, file_bytes(open_log)
     if isinstance(fault, Unchecked):
         file = keep(plan.folder, match.id, *files, log, "unchecked")

@@ -19,7 +19,7 @@ from ggp_tools.referee import Referee
 MOST_AT_ONCE = 1 << 16
 # ABORT is sent to at most this many players at the same time.
 MOST_ABORTS = 1_024
-# After its time limit, a process has this many more seconds, because this process may be late.
+# A process is killed this many seconds after its time limit, because this process may notice late that the other one has ended.
 SOON = 0.1
 # Python ignores these signals, and other programs must not.
 NOT_IGNORED = signal.SIGPIPE, signal.SIGXFSZ
@@ -37,15 +37,14 @@ class Watched(asyncio.subprocess.SubprocessStreamProtocol):
         super().process_exited()
 
     def pipe_connection_lost(self, fd: int, why: Exception | None) -> None:
-        """Ignores that a process has closed its input, which Python would report as an error."""
+        """Ignores that a process has closed its input. Python would report this as an error."""
         super().pipe_connection_lost(fd, why if fd else None)
 
 
 @contextlib.asynccontextmanager
 async def started(words: list[str], ends_itself: bool = False) -> AsyncIterator[tuple[asyncio.subprocess.Process, asyncio.Event]]:
-    """Starts a job, and yields it with an event that is set when it has ended. On exit, the started process and its group are killed. If this process ends,
-    the started process is killed too, unless `ends_itself` says that the started process then ends by itself. Ctrl-C at the terminal does not reach the
-    started process."""
+    """Starts a process, and yields it with an event that is set when the process has ended. On exit, kills the process and its group. The process is
+    also killed when this process ends, unless `ends_itself` is set: then it ends by itself. Ctrl-C at the terminal does not reach it."""
     loop, before = asyncio.get_running_loop(), () if ends_itself else (*WITH_PARENT, str(os.getpid()))
     if not shutil.which(words[0]):
         raise FileNotFoundError(errno.ENOENT, os.strerror(errno.ENOENT), words[0])
@@ -82,15 +81,15 @@ class Done:
 
 
 def spawned(words: list[str], *outputs: int) -> int:
-    """Starts a program without input, in a separate group. `outputs` are its standard output and its standard error. Returns the number of
-    the process."""
+    """Starts a program without input, in a new session, and returns its process id. `outputs` are the descriptors of its standard output and its
+    standard error."""
     streams = [(os.POSIX_SPAWN_OPEN, 0, os.devnull, os.O_RDONLY, 0), *((os.POSIX_SPAWN_DUP2, file, at) for at, file in enumerate(outputs, 1))]
     return os.posix_spawnp(words[0], words, APART.get() or os.environ, file_actions=streams, setsid=True, setsigdef=NOT_IGNORED)
 
 
 async def status_of(process: int, seconds: float | None) -> int | None:
-    """Waits until a process has ended, and returns its status. It is killed with its group when its time is over, or if the caller is cancelled; the status
-    is None if its time is over."""
+    """Waits until a process has ended, and returns its exit status. When its time is over, kills the process with its group and returns None. If the
+    caller is cancelled, kills them as well."""
     loop, has_ended, descriptor = asyncio.get_running_loop(), asyncio.Event(), -1
     try:
         descriptor = os.pidfd_open(process)
@@ -113,7 +112,7 @@ async def run(words: list[str], seconds: float | None = None) -> Done:
     """Runs a program to its end. Kills the program after `seconds`, or if the caller is cancelled."""
     began = time.monotonic()
     with contextlib.ExitStack() as stack:
-        # A file in memory costs less than a pipe, and has all output as soon as the program has ended.
+        # A file in memory is cheaper than a pipe, and contains all output as soon as the program has ended.
         output, errors = (stack.enter_context(open(os.memfd_create(name), "r+b", buffering=0)) for name in ("output", "errors"))
         status = await status_of(spawned(words, output.fileno(), errors.fileno()), None if seconds is None else seconds + SOON)
         for file in (output, errors):

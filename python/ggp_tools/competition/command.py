@@ -30,14 +30,14 @@ MOST_AT_ONCE = 1_024
 DIRECTORY = "the directory of the competition, with competition.toml (default: the current directory)"
 # If more matches than this are missing for the same reason, one line reports them all.
 MOST_LINES = 10
-HELP = "Runs a competition of game players from one directory, whose file competition.toml describes it."
+HELP = "Runs a competition between game players. The file competition.toml, in the directory of the competition, describes it."
 STATUS = """exit status 0: success; with `play`, each match has a lawful record. 1: failure. 2: the command or competition.toml is wrong. 3: the referee
-could not check the files, for example because memory is short; no file of a match was changed.
+could not check the files, for example because it was out of memory; no file of a match was changed.
 """
 
 
 def add_program(parser: argparse.ArgumentParser, **more: object) -> None:
-    text = "the referee, ggp_manager (the one next to this program, in bin of the repository, or on the PATH of the shell)"
+    text = "the referee, ggp_manager (default: the one next to this program, in bin of the repository, or on the PATH of the shell)"
     parser.add_argument("--program", metavar="FILE", help=text, **more)
 
 
@@ -103,8 +103,8 @@ def write_matches(plan: Plan, results: list[Result], known: Known | None = None)
 
 
 def known_results(plan: Plan, referee: Referee, known: Known | None) -> tuple[list[Result], bool]:
-    """Returns the results that count, in the order of the schedule, and whether there are records that do not count. Reports why those do
-    not count."""
+    """Returns the results that count, in the order of the schedule, and whether there are records that do not count. Reports why each of these
+    does not count."""
     results, faults, misfits = check_records(plan, referee, known)
     for match, why in {**faults, **misfits}.items():
         print(f"ggp_competition: {match} does not count: {why}", file=sys.stderr)
@@ -364,11 +364,11 @@ def check_one(archive: str, referee: Referee) -> bool:
     """Checks an archive, and returns whether it has errors."""
     from ggp_tools.competition.archive import check_archive
 
-    faults, said = check_archive(pathlib.Path(archive), referee)
+    faults, summary = check_archive(pathlib.Path(archive), referee)
     for fault in faults:
         print(f"ggp_competition: {archive}: {fault}", file=sys.stderr)
     if not faults:
-        say(said)
+        say(summary)
     return bool(faults)
 
 
@@ -380,7 +380,7 @@ COMMANDS = {
     "table": ("prints the table, and writes it as table.txt, table.csv, crosstable.csv and table.json", run_table),
     "pages": ("writes the pages for a browser to the directory `pages`", run_pages),
     "publish": ("writes an archive of the whole competition, with checksums", run_publish),
-    "serve": ("serves live pages of the matches, the standings and the players to browsers, read only", run_serve),
+    "serve": ("serves live pages of the matches, the standings and the players to browsers, which can't change anything", run_serve),
     "why": ("explains what happened to the players of a match, turn by turn, with the times", run_why),
     "try": ("starts one player that has a command, and plays a match with it in each role", run_try),
     "check": ("checks archives that `publish` has written, and reads nothing else", run_check),
@@ -390,7 +390,7 @@ COMMANDS = {
 def main() -> int:
     ready_streams()
     asked = arguments(sys.argv[1:])
-    # If an archive can't be read, or its check is interrupted, it has not failed the check.
+    # An archive that can't be read, or whose check is interrupted, has not failed the check.
     interrupted = 3 if asked.run is run_check else 1
     try:
         referee = Referee(find_program(asked.program))

@@ -30,9 +30,9 @@ PORT = "{port}"
 RUNS_ELSEWHERE = "a program that runs its arguments on another machine"
 MEMORY = re.compile("[1-9][0-9]{0,5}[KMGT]")
 MOST_PROCESSORS, MOST_START_SECONDS, MOST_RATING = 4_096, 3_600, 10_000
-# How long a job may wait before its launcher runs it, for example in a queue, in seconds.
+# How many seconds a job may wait until its launcher runs it, for example in a queue: the default, and the maximum.
 QUEUE_SECONDS, MOST_QUEUE_SECONDS = 3_600, 604_800
-# The default time limit for making a description ground, in seconds, and the maximum.
+# The time limit for grounding a description, in seconds: the default, and the maximum.
 INSTANTIATING, MOST_INSTANTIATING = 60, 1_000_000
 # The forms that plan each round from the results of the previous one.
 ROUND_KINDS = SWISS, KNOCKOUT = "swiss", "knockout"
@@ -100,8 +100,8 @@ def spelled(value: object) -> str:
 
 def is_address(text: str) -> bool:
     """Returns whether a text is HOST:PORT."""
-    found = ADDRESS.fullmatch(text)
-    return bool(found) and 1 <= int(found[2]) <= MOST_PORT
+    match = ADDRESS.fullmatch(text)
+    return bool(match) and 1 <= int(match[2]) <= MOST_PORT
 
 
 class Section:
@@ -154,13 +154,13 @@ class Section:
         return self.table[key]
 
     def text(self, key: str, default: str | None = None, what: str = "", is_valid: Callable[[str], object] = bool) -> str | None:
-        """Returns the text of the key. If the key is missing or its value is not a text, returns the default. If `what` is given, the text
-        must be valid."""
-        found = self.value(key, str, "a text in quotes", default)
-        if what and found is not None and found is self.table.get(key) and not is_valid(found):
-            self.expected(key, what, found)
+        """Returns the text of the key. If the key is missing or its value is not a text, returns the default. If `what` is given, it describes the
+        texts that `is_valid` accepts, and any other text is a mistake."""
+        text = self.value(key, str, "a text in quotes", default)
+        if what and text is not None and text is self.table.get(key) and not is_valid(text):
+            self.expected(key, what, text)
             return default
-        return found
+        return text
 
     def path_of_file(self, key: str, default: str | None = None) -> str | None:
         return self.text(key, default, "the path of a file", lambda path: path and not CONTROL.search(path))
@@ -169,11 +169,11 @@ class Section:
         return self.value(key, bool, "true or false", False)
 
     def number(self, key: str, least: int, most: int, default: int | None = None) -> int | None:
-        found = self.value(key, int, "a whole number", default)
-        if found is not None and not least <= found <= most:
-            self.expected(key, f"a whole number from {least:,} to {most:,}", found)
+        number = self.value(key, int, "a whole number", default)
+        if number is not None and not least <= number <= most:
+            self.expected(key, f"a whole number from {least:,} to {most:,}", number)
             return default
-        return found
+        return number
 
     def word(self, key: str, words: tuple[str, ...], default: str) -> str:
         return self.text(key, default, f"one of {', '.join(words)}", words.__contains__)
@@ -183,22 +183,22 @@ class Section:
 
     def reason(self, key: str) -> str | None:
         """Returns a reason. For `true`, the reason is empty. For `false`, or if the key is missing, returns None."""
-        found = self.table.get(key, False)
-        if type(found) is bool:
-            return "" if found else None
-        if type(found) is not str or not REASON.fullmatch(found):
-            self.expected(key, "true or a reason of 1 to 200 printable ASCII characters, without a space at either end", found)
-        return str(found)
+        reason = self.table.get(key, False)
+        if type(reason) is bool:
+            return "" if reason else None
+        if type(reason) is not str or not REASON.fullmatch(reason):
+            self.expected(key, "true or a reason of 1 to 200 printable ASCII characters, without a space at either end", reason)
+        return str(reason)
 
     def texts(self, key: str) -> list[Text]:
-        found = []
+        texts = []
         for number, member in enumerate(self.value(key, list, "an array of texts", [])):
             line = self.line(key, number)
             if type(member) is str:
-                found.append(Text(member, line))
+                texts.append(Text(member, line))
             else:
                 self.expected(key, "a text in quotes", member, line)
-        return found
+        return texts
 
     def words(self, key: str, what: str, is_needed: bool = True) -> tuple[str, ...]:
         """Returns the words of a command. If the words are invalid, or if the key is missing and not needed, the list is empty."""
@@ -219,23 +219,23 @@ class Section:
         return int(text[:-1]) << (10 * (1 + "KMGT".index(text[-1]))) if text else 0
 
     def environment(self, key: str) -> tuple[tuple[str, str], ...]:
-        found = self.value(key, dict, "a table of texts", {})
-        for name, value in found.items():
+        variables = self.value(key, dict, "a table of texts", {})
+        for name, value in variables.items():
             if not name or "=" in name or "\0" in name or type(value) is not str or "\0" in value:
                 self.mistake(key, f"expected a variable with a text in quotes, found {spelled(name)}")
                 return ()
-        return tuple(found.items())
+        return tuple(variables.items())
 
     def anchors(self, key: str) -> dict[str, int]:
         """Returns ratings by player name."""
-        found, players = self.value(key, dict, "a table of ratings", {}), self.names("players")
-        for name, rating in found.items():
+        ratings, players = self.value(key, dict, "a table of ratings", {}), self.names("players")
+        for name, rating in ratings.items():
             line = self.lines.get((*self.path, key, name))
             if type(rating) is not int or abs(rating) > MOST_RATING:
                 self.expected(key, f"for {shown(name, MOST_SHOWN)} a whole number from -{MOST_RATING:,} to {MOST_RATING:,}", rating, line)
             elif name not in players:
                 self.mistake(key, f"there is no player {spelled(name)}", line)
-        return found
+        return ratings
 
     def names(self, key: str) -> set[str]:
         """Returns the names in an array of tables, even if other values in the array are invalid."""
@@ -262,7 +262,7 @@ class Section:
 
 
 def read_by(read: Callable, *limits: object, key: str = "", **more: object) -> Any:
-    """Returns a dataclass field that a method of `Section` reads within these limits. The key has the field's name, unless `key` is
+    """Returns a dataclass field whose value a method of `Section` reads, with these limits. The key has the name of the field, unless `key` is
     given."""
     return field(metadata={"read": lambda section, name: read(section, key or name, *limits), "key": key}, **more)
 
@@ -334,7 +334,7 @@ class Player:
 
 @dataclass(frozen=True)
 class Launcher:
-    """A command that runs a program on another machine, how many matches it may have at a time, and how long each may wait until it runs."""
+    """A command that runs a program on another machine, how many matches it may run at a time, and how long each may wait until it runs."""
 
     command: tuple[str, ...] = read_by(Section.words, RUNS_ELSEWHERE)
     slots: int = read_by(Section.number, 1, MOST_AT_A_TIME)
@@ -415,13 +415,13 @@ def refuse_twice(sections: list[Section], key: str) -> None:
 
 def games_of(root: Section, clocks: dict[str, int | None]) -> tuple[Game, ...]:
     """Returns the games. A game without a clock gets the one in `clocks`."""
-    found, sections = [], root.sections("games", MOST_GAMES)
+    games, sections = [], root.sections("games", MOST_GAMES)
     for section in sections:
         section.refuse_others(keys_of(Game))
         section.table = {**clocks, **section.table}
-        found.append(section.read(Game))
+        games.append(section.read(Game))
     refuse_twice(sections, "name")
-    return tuple(found)
+    return tuple(games)
 
 
 def is_place(text: str) -> bool:
@@ -456,14 +456,14 @@ def player_of(section: Section) -> Player:
 
 def players_of(root: Section) -> tuple[Player, ...]:
     sections = root.sections("players", MOST_PLAYERS)
-    found = tuple(map(player_of, sections))
+    players = tuple(map(player_of, sections))
     refuse_twice(sections, "name")
     refuse_twice(sections, "address")
-    for player in found:
+    for player in players:
         if player.command and not player.command.launcher and "launcher" in root.table:
             words = "the matches of a launcher can't reach a player that is started here: give it a `launcher` too"
             root.mistake("players.command", words, player.line)
-    return found
+    return players
 
 
 def form_of(root: Section) -> Form:
@@ -522,16 +522,16 @@ def read_competition(data: bytes) -> Competition:
     root = root_of(data, mistakes)
     root.refuse_others(keys_of(Competition))
     clocks = {key: root.number(key, 1, MOST_SECONDS, 10) for key in ("start", "play")}
-    found = root.read(Competition, **clocks, form=form_of(root), games=games_of(root, clocks), players=players_of(root), lines=root.lines)
-    kind = found.form.kind
+    competition = root.read(Competition, **clocks, form=form_of(root), games=games_of(root, clocks), players=players_of(root), lines=root.lines)
+    kind = competition.form.kind
     if "order" in root.table and kind in ROUND_KINDS:
         root.mistake("order", f"the kind {kind} determines the order, so this key is not allowed")
     for key in ("absent_rounds", "pause") if kind not in ROUND_KINDS else ():
         if key in root.table:
             root.mistake(key, f"only the kinds {' and '.join(ROUND_KINDS)} have this key")
-    if kind == KNOCKOUT and found.withdrawn_results == VOID:
+    if kind == KNOCKOUT and competition.withdrawn_results == VOID:
         why = "the matches that a withdrawn player has won must count, since other players have lost them"
         root.mistake("withdrawn_results", f'a knockout can\'t have "void": {why}')
     if mistakes:
         raise Mistaken(sorted(mistakes, key=lambda mistake: mistake.line))
-    return found
+    return competition

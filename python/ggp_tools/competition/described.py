@@ -13,19 +13,19 @@ from ggp_tools.descriptions.loading import has_variables, run_module, sum_of
 from ggp_tools.processes import ended_words
 from ggp_tools.referee import Unchecked
 
-# The time limit for each match.
+# The time limit for each match, in seconds.
 SECONDS = 60
 SAME, DIFFERENT, NOT_FOLLOWED = 0, 1, 3
 # How the line about a record begins, for each result.
 IS_SAME, DIFFERS, IS_NOT_FOLLOWED = "the same: ", "differs: ", "not followed: "
 REPORT = "report-{}.tar.gz"
-# Whether a description has variables, by its checksum: for a large one, finding out takes long.
+# Whether a description has variables, by its checksum. This is cached, because it takes long to compute for a large description.
 HAVE_VARIABLES: dict[str, bool] = {}
 
 
 def description_of(plan: Plan, game: Game) -> tuple[bytes | None, str | None]:
-    """Returns the description of a game, and the reason why it cannot be used. If the description cannot be used or has no variables, it is
-    None. If it can be used or has no variables, the reason is None. Only the version that `plan` has read can be used."""
+    """Returns the description of a game, or None if it has no variables or can't be used. Also returns the reason why it can't be used, or None.
+    A description can't be used if it is missing, or has changed since `plan` read it."""
     file = plan.folder.description(game)
     try:
         sums, text = sums_of(plan.folder.description_sums), file.read_bytes()
@@ -41,7 +41,7 @@ def description_of(plan: Plan, game: Game) -> tuple[bytes | None, str | None]:
 
 
 def comparisons(path: pathlib.Path, records: Sequence[bytes]) -> list[str]:
-    """Compares records, each a line of bytes, with a description. Returns the result for each record."""
+    """Compares records, each of which is one line, with a description. Returns the result for each record."""
     run = run_module("holding.command", f"--seconds={SECONDS}", "--", str(path), data=b"".join(records))
     lines = run.stdout.decode("ascii", "replace").splitlines()
     if run.returncode not in (SAME, DIFFERENT, NOT_FOLLOWED) or len(lines) != len(records):

@@ -22,16 +22,16 @@ UNFINISHED = ".unfinished-"
 PLAYERS = "players"
 # The stages of an open match. The stage is the name of an empty file in the match's directory.
 STAGES = ASKING, PLAYING, CHECKING = "asking", "playing", "checking"
-# A number of open files that suffices for the maximum numbers of matches at the same time, and of connections.
+# The limit of open files. It suffices for the maximum number of matches at the same time, and for the maximum number of connections.
 DESCRIPTORS = 16_384
-# The maximum size of a file of a plan that is read as a whole.
+# The maximum size of a plan's file that is read as a whole.
 MOST_OF_PLANNED = 64 << 20
 # The mode of files that only their owner may read: those of open matches, players and `play`, and the key of the ids.
 PRIVATE = 0o600
 
 
 class Refused(Exception):
-    """The reason why a command ends, in lines, and advice that applies to the directory of a competition but not to an archive."""
+    """The reason why a command ends, which may have several lines. `advice` applies to the directory of a competition, but not to an archive."""
 
     def __init__(self, words: str, advice: str | None = None) -> None:
         super().__init__(f"{words}: {advice}" if advice else words)
@@ -39,7 +39,7 @@ class Refused(Exception):
 
 
 def allow_files() -> int:
-    """Raises the limit of open files to this number, or as far as the system allows. Returns the new limit."""
+    """Raises the limit of open files to DESCRIPTORS, or as far as the system allows. Returns the new limit."""
     soft, hard = resource.getrlimit(resource.RLIMIT_NOFILE)
     most = max(soft, min(hard, DESCRIPTORS))
     resource.setrlimit(resource.RLIMIT_NOFILE, (most, hard))
@@ -99,8 +99,8 @@ def private(name: str, flags: int) -> int:
 @contextlib.contextmanager
 def written_whole(path: pathlib.Path, is_lasting: bool = True, is_private: bool = False) -> Iterator[BinaryIO]:
     """Yields a file to write to. The file has a temporary name until it is complete, so a partly written file never has the final name.
-    With `is_lasting`, the file is on the disk at the end. Otherwise, it may be lost if the computer crashes. If there is an error, no file
-    is left."""
+    With `is_lasting`, the file is on the disk at the end. Otherwise, it may be lost if the computer crashes. If writing fails, deletes the
+    temporary file."""
     path = pathlib.Path(path)
     # Two runs may write the same file, so each uses a different temporary name.
     other = path.with_name(f"{UNFINISHED}{os.getpid()}-{path.name}")
@@ -118,7 +118,7 @@ def written_whole(path: pathlib.Path, is_lasting: bool = True, is_private: bool 
         with contextlib.suppress(OSError):
             other.unlink()
         if isinstance(why, OSError) and why.filename in (None, str(other)):
-            # An error of a write does not name the file, and the temporary name would mean nothing to a reader.
+            # The error of a failed write does not name the file, and the temporary name would mean nothing to the user.
             raise OSError(why.errno, why.strerror, str(path)) from None
         raise
     if is_lasting:
@@ -132,7 +132,7 @@ def write_whole(path: pathlib.Path, data: bytes, is_lasting: bool = True, is_pri
 
 
 def drop_unfinished(folder: pathlib.Path) -> None:
-    """Deletes unfinished files of processes that have ended from a directory. This process must not be writing files in the directory."""
+    """Deletes the unfinished files that ended processes have left in a directory. This process must not be writing files in the directory."""
     for file in folder.glob(f"{UNFINISHED}*"):
         # The name contains the id of the process that writes the file.
         number = file.name.removeprefix(UNFINISHED).partition("-")[0]
@@ -146,8 +146,8 @@ def new_file(path: str | pathlib.Path) -> BinaryIO:
 
 
 def opened_file(path: str | pathlib.Path, flags: int = 0) -> BinaryIO:
-    """Opens a regular file for reading. Refuses all other files, for example a pipe, which would block the reader until somebody writes to
-    it."""
+    """Opens a regular file for reading. Refuses all other files, for example a pipe, which would block the reader until another process writes
+    to it."""
     descriptor = os.open(path, os.O_RDONLY | os.O_NONBLOCK | os.O_CLOEXEC | flags)
     kind = os.fstat(descriptor).st_mode
     if not stat.S_ISREG(kind):
@@ -190,7 +190,7 @@ class Folder:
         return self.rules / f"{game}.players"
 
     def rule_files(self, game: "Game") -> list[pathlib.Path]:
-        """Returns the files that `plan` writes for a game: its rules, and the rules that players get instead."""
+        """Returns the files that `plan` writes for a game: its rules and, if players get other rules, these."""
         return [self.rules_of(game.name), *([self.player_rules_of(game.name)] if game.tells_variables() else [])]
 
     def description(self, game: "Game") -> pathlib.Path:
@@ -232,13 +232,13 @@ class Folder:
             return b"", False
         with opened_file(self.log(match)) as file:
             if is_cut := (size := os.fstat(file.fileno()).st_size) > most:
-                # If the part does not begin at the beginning of a line, its first line is incomplete and left out.
+                # The part may begin within a line. Such an incomplete line is left out.
                 file.seek(size - most - 1)
                 file.readline(most)
             return file.read(most), is_cut
 
     def mark(self) -> str:
-        """Returns the mark of the programs that `play` runs for this competition."""
+        """Returns the mark by which `play` recognizes the programs that it runs for this competition."""
         return os.path.realpath(self.path)
 
     def refuse_old_logs(self) -> None:
@@ -254,8 +254,8 @@ class Folder:
             raise Refused(f"{self.path.absolute()}: the path of a competition must be UTF-8, because the referee accepts no other") from None
 
     def make(self, *folders: pathlib.Path) -> None:
-        """Creates missing directories, and waits until they are on the disk, like the files in them. Only the owner can read the directory of open
-        matches, and a new directory of the players' logs, because a log that grows would show when a player has answered."""
+        """Creates missing directories, and waits until they are on the disk. Only their owner can read the directory of open matches and a new
+        directory of players' logs, because other users could see from a growing log when a player has answered."""
         for folder in (self.path, *folders):
             if not folder.is_dir():
                 folder.mkdir(0o700 if folder == self.players else 0o777, parents=True, exist_ok=True)

@@ -1,4 +1,4 @@
-"""Checks the description of a game: whether the referee accepts it, which sentences are suspicious, and how random matches end."""
+"""Checks the description of a game: whether the referee accepts it, which sentences are suspicious, and how random matches of it end."""
 
 import argparse
 import pathlib
@@ -18,13 +18,13 @@ from ggp_tools.referee import Referee, Unchecked
 from ggp_tools.reporting import Reporter
 from ggp_tools.streams import MOST_SECONDS, whole
 
-HELP = "says whether the description of a game is accepted, what is suspicious in it, and how random matches of it end"
-STATUS = """exit status 0: nothing is wrong, though something may be suspicious. 1: the referee refuses the description, a match is aborted, none
-ends in time, or a record differs from the expected one. 2: the command is wrong, or the file can't be read. 3: there is no verdict, for
-example because the referee or the grounder was killed or is out of memory, or no temporary file can be written.
+HELP = "reports whether the referee accepts the description of a game, which sentences are suspicious, and how random matches of it end"
+STATUS = """exit status 0: the description has no errors, but sentences may be suspicious. 1: the referee refuses the description, a random match is
+aborted, no random match ends in time, or a record differs from the expected one. 2: the command is wrong, or the file can't be read. 3: there
+is no verdict, for example because the referee or the grounder was killed or is out of memory, or no temporary file can be written.
 """
 MOST_MATCHES, MOST_SEED = 10_000, 10**18
-# The maximum number of seeds that are listed, and the maximum number of bytes of a state.
+# The maximum number of seeds in a list, and the maximum number of bytes of a state in a message.
 LISTED, MOST_STATE = 10, 500
 # `plan` plays random matches until one of them ends, but at most this many, and begins no turn after this many seconds.
 TRIAL_MATCHES, TRIAL_SECONDS = 5, 10
@@ -39,7 +39,7 @@ def add_game(commands: Any) -> argparse.ArgumentParser:
     """Adds the command `game` to the commands of the command line, and returns the new command."""
     command = commands.add_parser("game", help=HELP, description=f"{HELP[0].upper()}{HELP[1:]}.", epilog=STATUS)
     command.add_argument("file", metavar="FILE", help="the description, with or without variables")
-    command.add_argument("--large", action="store_true", help="use the limits for large games at once")
+    command.add_argument("--large", action="store_true", help="use the limits for large games from the beginning")
     seconds = whole(1, MOST_SECONDS)
     command.add_argument("--matches", type=whole(0, MOST_MATCHES), default=20, metavar="N", help="play N random matches (default: 20)")
     text = "the seed of the first match (default: 1); each later match uses the next number"

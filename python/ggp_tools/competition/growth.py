@@ -1,8 +1,9 @@
-"""The schedule of a competition that grows: after the first match you may add rounds, players, games and pairings, and order rematches. The
-planned matches stay as they are, and the new matches come after them.
+"""Computes the schedule of a competition that grows: after the first match, you can still add rounds, players, games and pairings, and order
+rematches. The planned matches stay as they are, and the new matches come after them.
 
-The schedule follows from all versions of competition.toml, and from the rematches. Each version adds the matches that this version requests
-and the previous version did not. If players are added, a game of more than two roles gets the matches in which a new player plays."""
+The schedule follows from all versions of competition.toml, and from the rematches. Each version adds the matches that it requests and that
+the previous version did not request. If a version adds players, a game of more than two roles gets only the matches in which a new player
+plays."""
 
 import itertools
 from collections import Counter
@@ -23,7 +24,7 @@ ResultOf = Callable[[Match], Result | None]
 
 
 class Misfit(Exception):
-    """The reason why a schedule can't grow in this way. If the error is in competition.toml, `line` is the line of the error."""
+    """The reason why a schedule can't grow as requested. If the error is in competition.toml, `line` is the line of the error."""
 
     def __init__(self, words: str, line: int = 0) -> None:
         super().__init__(words)
@@ -54,7 +55,7 @@ class History:
 
 
 def shape(competition: Competition) -> tuple[object, ...]:
-    """Returns everything that determines the schedule of a competition."""
+    """Returns the values that determine the schedule of a competition."""
     form, games = competition.form, [(game.name, game.start, game.play) for game in competition.games]
     names = [(player.name, player.withdrawn is None) for player in competition.players]
     rules = competition.name, competition.ids, competition.withdrawn_results, competition.absent_rounds
@@ -62,26 +63,26 @@ def shape(competition: Competition) -> tuple[object, ...]:
 
 
 def refuse_unchanged(history: History, competition: Competition) -> None:
-    """Refuses an earlier version that asks for the same matches as the version after it."""
+    """Refuses an earlier version that requests the same matches as the version after it."""
     for (until, before), (_, after) in itertools.pairwise((*history.earlier, (None, competition))):
         if shape(before) == shape(after):
             raise Misfit(f"earlier/{until}.toml asks for the same matches as the file after it, so it was not replaced; delete it")
 
 
 def fixed(competition: Competition) -> dict[str, object]:
-    """Returns, by key, the values that must not change once matches have been played: they determine how matches count, and how the table is
-    computed."""
+    """Returns, by key, the values that must not change once matches have been played, because they determine how matches count and how the table
+    is computed."""
     form = competition.form
-    found = {"form.kind": form.kind, "faults.replaced": competition.faults.replaced}
-    found |= {key: getattr(competition, key) for key in ("name", "ids", "seeds", "strikes", "forfeit", "order", "anchor")}
+    values = {"form.kind": form.kind, "faults.replaced": competition.faults.replaced}
+    values |= {key: getattr(competition, key) for key in ("name", "ids", "seeds", "strikes", "forfeit", "order", "anchor")}
     if is_by_rounds(competition):
         # These values also determine the pairs of later rounds.
-        found |= {"form.final": form.final, "the number of games": len(competition.games)}
-        found |= {"form.rounds": form.rounds} if form.final else {}
-        found |= {"the number of players": len(competition.players)} if form.kind == KNOCKOUT else {}
+        values |= {"form.final": form.final, "the number of games": len(competition.games)}
+        values |= {"form.rounds": form.rounds} if form.final else {}
+        values |= {"the number of players": len(competition.players)} if form.kind == KNOCKOUT else {}
     if competition.withdrawn() or competition.absent_rounds:
-        found["withdrawn_results"] = competition.withdrawn_results
-    return found
+        values["withdrawn_results"] = competition.withdrawn_results
+    return values
 
 
 def spelled(value: object) -> str:
@@ -131,37 +132,37 @@ class Growing:
         if is_by_rounds(competition):
             refuse_numbers(competition, self.roles)
             self.add_again(competition, until)
-            while found := self.next_round(competition, most):
-                self.rounds.add(found)
-                self.add_all(competition, meetings(competition, found), found.number)
+            while following := self.next_round(competition, most):
+                self.rounds.add(following)
+                self.add_all(competition, meetings(competition, following), following.number)
                 self.add_again(competition, until)
             return
         known, self.asked = self.asked, asked(competition, self.roles)
-        found = self.asked if before is None else self.added(before, competition, Counter(known))
-        self.width = self.width or len(str(len(found)))
+        additions = self.asked if before is None else self.added(before, competition, Counter(known))
+        self.width = self.width or len(str(len(additions)))
         # A player that has withdrawn plays no further match.
         withdrawn = competition.withdrawn()
-        self.add_all(competition, [(game, players) for game, players in found if withdrawn.keys().isdisjoint(players)])
+        self.add_all(competition, [(game, players) for game, players in additions if withdrawn.keys().isdisjoint(players)])
         self.add_again(competition, until)
 
     def added(self, before: Competition, after: Competition, known: Counter[GameAndPlayers]) -> list[GameAndPlayers]:
         """Returns the matches that a version adds to the known ones. Refuses a version that lacks a known match."""
-        found, new = [], set(new_players(before, after))
+        additions, new = [], set(new_players(before, after))
         shared = {game.name for game in before.games if new and self.roles[game.name] > 2 and after.form.lines == ()}
         if shared and before.form.rounds != after.form.rounds:
             raise Misfit(f"{min(shared)} has more than two roles, so add rounds and players separately, and run `plan` in between")
         for game, players in self.asked:
             if game in shared:
-                found += [(game, players)] if new.intersection(players) else []
+                additions += [(game, players)] if new.intersection(players) else []
             elif known[game, players]:
                 known[game, players] -= 1
             else:
-                found.append((game, players))
+                additions.append((game, players))
         for (game, players), count in known.items():
             if count and game not in shared:
                 gone = [match.id for match in self.matches if (match.game, match.players) == (game, players)][-count:]
                 raise Misfit(f"{gone[0]} ({game} {' '.join(players)}) was planned, but is no longer among the matches")
-        return found
+        return additions
 
     def next_round(self, competition: Competition, most: int | None) -> Round | None:
         """If the last round is over, returns the next one, otherwise None. After `most` matches, returns only a round without matches, for
@@ -172,18 +173,18 @@ class Growing:
         results = {match: self.result_of(match) for match in self.of_round(number)}
         if any(result is None and not withdrawn.keys() & match.players for match, result in results.items()):
             return None
-        found = self.rounds.next(competition, [result for result in results.values() if result])
-        return None if is_full and found.pairs else found
+        following = self.rounds.next(competition, [result for result in results.values() if result])
+        return None if is_full and following.pairs else following
 
     def of_round(self, number: int) -> list[Match]:
         """Returns the matches of the last round that count."""
         last = itertools.takewhile(lambda match: match.round == number, reversed(self.matches)) if number else ()
         return [match for match in last if not match.again][::-1]
 
-    def add_all(self, competition: Competition, found: Sequence[GameAndPlayers], round_number: int = 0) -> None:
-        refuse_too_many(competition, len(self.matches) + len(found))
+    def add_all(self, competition: Competition, matches: Sequence[GameAndPlayers], round_number: int = 0) -> None:
+        refuse_too_many(competition, len(self.matches) + len(matches))
         games = {game.name: game for game in competition.games}
-        for name, players in found:
+        for name, players in matches:
             game = games[name]
             self.add(Match(self.next_id(competition), name, game.start, game.play, players, round_number))
 

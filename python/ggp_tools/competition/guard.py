@@ -1,7 +1,7 @@
 """Ends the programs that `play` runs when `play` has ended, even if `play` was killed. The guard needs only Python's standard library.
 
-Each program that `play` runs has a mark in its environment, and passes this mark on to the programs that it starts. The input of this
-program ends when `play` has ended, and when the programs that `play` was starting at that moment have begun."""
+Each program that `play` runs has a mark in its environment, and passes this mark on to the programs that it starts. The standard input of
+the guard ends as soon as `play` has ended, and the programs that `play` was starting at that moment have begun."""
 
 import contextlib
 import os
@@ -18,17 +18,17 @@ END_SECONDS = 15
 
 def marked(value: str) -> list[int]:
     """Returns the processes whose mark is `value`."""
-    mark, found = os.fsencode(f"{MARK}={value}"), []
+    mark, processes = os.fsencode(f"{MARK}={value}"), []
     for file in pathlib.Path("/proc").glob("[0-9]*/environ"):
         # The environments of the processes of other users can't be read.
         with contextlib.suppress(OSError):
             if mark in file.read_bytes().split(b"\0"):
-                found.append(int(file.parent.name))
-    return found
+                processes.append(int(file.parent.name))
+    return processes
 
 
 def end(process: int, seconds: float) -> None:
-    """Kills a process, and waits until it has ended, but at most this many seconds."""
+    """Kills a process, and waits at most this many seconds until it has ended."""
     descriptor = os.pidfd_open(process)
     try:
         signal.pidfd_send_signal(descriptor, signal.SIGKILL)
@@ -42,8 +42,8 @@ def end(process: int, seconds: float) -> None:
 def end_marked(value: str) -> None:
     """Kills the processes whose mark is `value`, and all processes that these processes start meanwhile."""
     until = time.monotonic() + END_SECONDS
-    while (found := marked(value)) and (left := until - time.monotonic()) > 0:
-        for process in found:
+    while (processes := marked(value)) and (left := until - time.monotonic()) > 0:
+        for process in processes:
             with contextlib.suppress(ProcessLookupError):
                 end(process, left)
 

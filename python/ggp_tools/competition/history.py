@@ -1,5 +1,5 @@
-"""Reads the history of a competition in its directory. `earlier` has the earlier versions of competition.toml. The name of a version is
-the number of matches that were planned when the next version replaced this version. `again.tsv` has the rematches, with the reasons."""
+"""Reads the history of a competition from its directory. The directory `earlier` has the earlier versions of competition.toml. Each one is named
+after the number of matches that were planned when the next version replaced it. `again.tsv` has the rematches, with the reasons."""
 
 import csv
 import io
@@ -16,8 +16,8 @@ HEAD = b"match\tinstead of\treason\n"
 LINE = re.compile(rb"([A-Za-z0-9_.-]{1,60})\t([A-Za-z0-9_.-]{1,60})\t([\x20-\x7e]{1,200})\n")
 KEY = re.compile(rb"[0-9a-f]{32}\n")
 EARLIER = re.compile(r"([1-9][0-9]{0,5})\.toml")
-# The maximum number of earlier versions, and the maximum number of bytes that they may have in total. Reading a version may take seconds,
-# and `plan` writes one each time that the schedule grows. This number suffices to add the maximum number of players one by one.
+# The maximum number of earlier versions, and the maximum number of bytes of all of them together. Reading a version may take seconds, and
+# `plan` writes one each time that the schedule grows. The first maximum suffices to add the maximum number of players one by one.
 MOST_EARLIER, MOST_OF_EARLIER = MOST_PLAYERS, 64 << 20
 
 
@@ -31,20 +31,20 @@ def read_again(folder: Folder) -> tuple[Again, ...]:
         return ()
     text = file_bytes(folder.again, MOST_OF_PLANNED + 1)
     lines = [LINE.fullmatch(line) for line in text.removeprefix(HEAD).splitlines(keepends=True)]
-    found = tuple(Again(*(word.decode("ascii") for word in line.groups())) for line in lines if line)
-    if not lines or len(text) > MOST_OF_PLANNED or again_text(found) != text or len({order.match for order in found}) != len(found):
+    orders = tuple(Again(*(word.decode("ascii") for word in line.groups())) for line in lines if line)
+    if not lines or len(text) > MOST_OF_PLANNED or again_text(orders) != text or len({order.match for order in orders}) != len(orders):
         raise Refused(f"{folder.again} is not what `ggp_competition again` writes")
-    return found
+    return orders
 
 
 def competition_of_file(path: Path, text: bytes, seeds: Path | None = None) -> Competition:
-    """Returns the competition that a competition.toml describes. If the file has `seeds`, and the other competition's table is given, the
-    players are in the order of this table."""
+    """Returns the competition that a competition.toml describes. If the file has the key `seeds`, and the argument `seeds` is the table of the
+    other competition, the players are in the order of this table."""
     try:
-        found = read_competition(text)
+        competition = read_competition(text)
     except Mistaken as why:
         raise Refused(mistake_lines(path, why.mistakes)) from None
-    return seeded(found, seeds) if seeds and found.seeds else found
+    return seeded(competition, seeds) if seeds and competition.seeds else competition
 
 
 def seeded(competition: Competition, path: Path) -> Competition:
@@ -65,15 +65,15 @@ def seeded(competition: Competition, path: Path) -> Competition:
 def earlier_files(folder: Folder, *new: int) -> list[Path]:
     """Returns the earlier versions of competition.toml, the oldest first. Refuses too many files, or too many bytes in total. `new` has the
     sizes of the versions that will be added."""
-    found = [file for file in folder.earlier.iterdir() if not file.name.startswith(UNFINISHED)] if folder.earlier.is_dir() else []
-    for file in found:
+    files = [file for file in folder.earlier.iterdir() if not file.name.startswith(UNFINISHED)] if folder.earlier.is_dir() else []
+    for file in files:
         if not EARLIER.fullmatch(file.name):
             raise Refused(f"{file} is not one of the earlier files of the competition")
-    sizes = [*(file.stat().st_size for file in found), *new]
+    sizes = [*(file.stat().st_size for file in files), *new]
     if len(sizes) > MOST_EARLIER or sum(sizes) > MOST_OF_EARLIER:
         words = f"{folder.earlier}: expected at most {MOST_EARLIER:,} files with {MOST_OF_EARLIER:,} bytes in total"
         raise Refused(f"{words}, found {len(sizes):,} with {sum(sizes):,}", "the schedule can't grow any more; begin another competition")
-    return sorted(found, key=lambda file: int(file.stem))
+    return sorted(files, key=lambda file: int(file.stem))
 
 
 def read_history(folder: Folder, competition: Competition) -> History:
@@ -82,7 +82,7 @@ def read_history(folder: Folder, competition: Competition) -> History:
 
 
 def read_key(folder: Folder, competition: Competition) -> bytes:
-    """Returns the key from which the ids of the matches are computed. If the ids are consecutive numbers, the key is empty."""
+    """Returns the key from which random ids of matches are computed. If the ids are consecutive numbers, the key is empty."""
     if competition.ids != RANDOM_IDS:
         return b""
     if not folder.key.exists():

@@ -1,4 +1,4 @@
-"""The server of the live pages. It only sends data, and it limits the number of connections."""
+"""Serves the live pages. The server is read-only, and limits the number of connections."""
 
 import asyncio
 import concurrent.futures
@@ -24,15 +24,14 @@ from ggp_tools.streams import report
 from ggp_tools.visitors import THIS_COMPUTER, Visitors, client_of, oldest_of_most
 
 Value = TypeVar("Value")
-# The directory is read every INTERVAL seconds. If a page does not change, its visitor is sent a row every ALIVE seconds, which shows
-# whether the visitor has left.
+# The server reads the directory every INTERVAL seconds. As long as a page does not change, the server sends its visitor a row every ALIVE
+# seconds, and thereby notices if the visitor has left.
 INTERVAL, ALIVE = 1.0, 10.0
-# The head of a request must arrive within HEAD seconds, and have at most LONGEST_HEAD bytes. The visitor must accept each piece of data
-# within PATIENCE seconds. It must accept the piece at byte N of an answer within PATIENCE + N / SLOWEST seconds after the beginning of the
-# answer.
+# The head of a request must arrive within HEAD seconds, and have at most LONGEST_HEAD bytes. The visitor must accept each piece of an answer
+# within PATIENCE seconds, and the piece at byte N within PATIENCE + N / SLOWEST seconds after the beginning of the answer.
 HEAD, LONGEST_HEAD, PATIENCE, SLOWEST = 5, 16_384, 20, 1 << 15
-# The number of connections that may wait to be accepted, and the number that are accepted at a time. The second one is small, so that the
-# server reads the heads of accepted connections before it accepts more: only the head of a request from a proxy shows the client, and
+# The number of connections that may wait to be accepted, and the number that are accepted at a time. The second number is small, so that
+# the server reads the heads of accepted connections before it accepts more: only the head of a request from a proxy shows the client, and
 # without a head, the connection may be closed to make room for another.
 BACKLOG, AT_A_TIME = 128, 4
 BUSY = b"HTTP/1.1 503 Service Unavailable\r\nRetry-After: 10\r\nContent-Length: 0\r\nConnection: close\r\n\r\n"
@@ -59,8 +58,8 @@ def kind_of(path: str) -> str:
 
 
 class Connection(web.RequestHandler):
-    """A connection with one request. `is_idle` is true until the head has arrived. When the connection ends, so does the task that answers
-    the request."""
+    """A connection with one request. `is_idle` is true until the head of the request has arrived. When the connection ends, the task that answers
+    the request is cancelled."""
 
     __slots__ = ("visitors", "client", "is_idle", "left", "clock", "asking", "answer")
 
@@ -88,7 +87,7 @@ class Connection(web.RequestHandler):
         super().connection_made(transport)
 
     def data_received(self, data: bytes) -> None:
-        """Receives a part of the request. Bytes after the request or beyond the limit are ignored."""
+        """Receives a part of the request. Ignores bytes after the request or beyond the limit."""
         self.left -= len(data)
         try:
             if self.left >= 0:
@@ -137,9 +136,9 @@ class Connection(web.RequestHandler):
 
 
 class Server:
-    """The server of a competition's live pages, below a path. One thread reads the directory and makes the pages, except those of matches
-    that are over, which another thread makes. The event loop does everything else. Browsers may address the server by `names`. Pages of
-    `origins` may show its pages and read its data."""
+    """Serves a competition's live pages below the path `base`. One thread reads the directory and makes the pages. Another thread makes the pages
+    of matches that are over. The event loop does everything else. Browsers may address the server by `names`. Pages of `origins` may show its
+    pages and read its data."""
 
     def __init__(self, site: LiveSite, most: int, base: str = "", names: Sequence[str] = (), origins: Sequence[str] = ()) -> None:
         self.site, self.visitors, self.address, self.reported = site, Visitors(most, spares_busy=False), "", ""
@@ -147,8 +146,8 @@ class Server:
         self.headers = {**HEADERS, "Content-Security-Policy": f"frame-ancestors {' '.join(origins or NOBODY)}"}
         self.thread, self.other_thread = concurrent.futures.ThreadPoolExecutor(1), concurrent.futures.ThreadPoolExecutor(1)
         sys.setrecursionlimit(MOST_CALLS)
-        # There is one lock for each client that is waiting for a thread, and one lock for the pages that are computed from results, which
-        # take longer than the others.
+        # There is one lock for each client that is waiting for a thread. There is also one lock for the pages that are computed from results,
+        # because these take longer than the others.
         self.turns: weakref.WeakValueDictionary[str, asyncio.Lock] = weakref.WeakValueDictionary()
         self.long_turn = asyncio.Lock()
         self.updated = asyncio.Event()
@@ -275,7 +274,7 @@ class Server:
         return response
 
     async def send_events(self, request: web.BaseRequest, path: str, known: str) -> web.StreamResponse:
-        """Sends the changes since a version, or from now on if there is no version, as long as the visitor accepts them."""
+        """Sends the changes to a page since a version, or from now on if no version is given, as long as the visitor accepts them."""
         with self.visitors.viewing(request.protocol) as has_room:
             page = await self.for_client(request.protocol.client, self.site.opened, path) if has_room else None
             if page is None:

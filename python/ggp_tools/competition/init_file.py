@@ -79,8 +79,8 @@ def ask_for_the_rest(asked: argparse.Namespace) -> None:
 
 def game_entry(word: str, folder: pathlib.Path) -> str:
     """Returns the entry of a game. The path of its file is relative to the competition's directory."""
-    places = [pathlib.Path(word), EXAMPLES / f"{word}.kif", EXAMPLES / f"general/{word}.kif"]
-    path = next((place for place in places if place.is_file()), None)
+    candidates = [pathlib.Path(word), EXAMPLES / f"{word}.kif", EXAMPLES / f"general/{word}.kif"]
+    path = next((candidate for candidate in candidates if candidate.is_file()), None)
     if path is None:
         raise Refused(f"--games: {word!r} is neither a file nor a game in {EXAMPLES}")
     return GAME.format(path.stem, os.path.relpath(path, folder))
@@ -109,7 +109,7 @@ def write_first_file(asked: argparse.Namespace) -> pathlib.Path:
     if not asked.games and not asked.form and sys.stdin.isatty():
         ask_for_the_rest(asked)
     if not asked.games or not asked.form:
-        raise Refused(f"--games, and one of {', '.join(f'--{form}' for form in FORMS)}, are needed")
+        raise Refused(f"expected --games, and one of {', '.join(f'--{form}' for form in FORMS)}")
     text = text_of(asked, folder.path)
     try:
         read_competition(text.encode())

@@ -1,8 +1,8 @@
 """Runs a referee or a player on the computer where a launcher has started this program. It needs only Python's standard library.
 
 It first writes the name of its node to standard error, and then a line every two seconds. It reads its task, a line of JSON, from standard
-input. It runs the task, passes on the task's output, and finally reports its exit status. The argument is a number of seconds. If standard
-input is closed, or silent for this time, the program ends the task. If the task is a player, the program gives it a free port and sets its
+input. It runs the task, passes on the task's output, and finally reports the task's exit status. The argument is a number of seconds. If
+standard input is closed, or silent for this time, the program ends the task. If the task is a player, the program gives it a free port and sets its
 limits. It ends the player together with all processes that the player has started."""
 
 import contextlib
@@ -73,7 +73,7 @@ def children() -> list[int]:
 
 
 class Job:
-    """A referee or a player, and its output. The job writes its own lines only between lines of the referee."""
+    """Runs a referee or a player, and passes on its output. Writes lines about the job only between lines of the referee."""
 
     def __init__(self, silence: float) -> None:
         self.silence, self.given = silence, b""

@@ -1,4 +1,4 @@
-"""A job runs a match on another computer, or a player on this or another computer."""
+"""Runs jobs. A job runs a match on another computer, or a player on this or another computer."""
 
 import asyncio
 import json
@@ -40,9 +40,9 @@ def is_player(text: str) -> bool:
 
 
 class Job:
-    """A run of `job.py` by a launcher on another computer, or on this one without a launcher. `take_output` gets its standard output, and `take_lines`
-    the lines of standard error that it passes on, several at a time. A launcher must run the job within `queue_seconds`. The computer on which it runs
-    may be hostile."""
+    """A run of `job.py`, by a launcher on another computer, or without a launcher on this one. `take_output` receives the standard output of
+    the job. `take_lines` receives the lines that the job passes on to standard error, several at a time. A launcher must run the job within
+    `queue_seconds`. The computer on which the job runs may be hostile."""
 
     def __init__(
         self, take_output: Callable[[bytes], Awaitable[None]], take_lines: Callable[[bytes], Awaitable[None]],
@@ -60,13 +60,13 @@ class Job:
         self.running = asyncio.create_task(self.run(launcher, task))
 
     def begin(self, task: dict[str, object]) -> None:
-        """Sends the job its command through standard input, so no launcher needs to quote it."""
+        """Sends the job its task through standard input, so that no launcher needs to quote it."""
         self.has_begun = True
         self.process.stdin.write(json.dumps(task).encode() + b"\n")
 
     async def reports(self, event: asyncio.Event, seconds: float | None = None) -> bool:
-        """Waits, for at most this many seconds, until the job has reported that it runs or has a player, or has ended. Returns whether it has reported that,
-        and has not ended."""
+        """Waits until the job has set an event, which is `runs` or `has_player`, or has ended, but at most this many seconds. Returns whether the
+        event is set and the job has not ended."""
         reporting = asyncio.create_task(event.wait())
         await asyncio.wait([self.running, reporting], timeout=seconds, return_when=asyncio.FIRST_COMPLETED)
         reporting.cancel()
@@ -84,7 +84,7 @@ class Job:
                 await asyncio.wait([ending, reading], return_when=asyncio.FIRST_COMPLETED)
             finally:
                 beating.cancel()
-                # The job gets time to end its processes on the node. If the job were killed, they might continue.
+                # The job gets time to end its processes on the node, because they might continue if the job were killed.
                 self.process.stdin.close()
                 await asyncio.wait([ending], timeout=self.end_seconds)
                 self.goes_on = self.has_begun and not has_ended.is_set()
@@ -108,7 +108,7 @@ class Job:
             await self.take_output(data)
 
     async def read_lines(self) -> None:
-        """Reads standard error. While a job waits in a queue, it may be silent, but not when it runs."""
+        """Reads standard error. A job may be silent while it waits in a queue, but not while it runs."""
         rest = b""
         try:
             async with asyncio.timeout(self.queue_seconds if self.is_remote else None) as silence:

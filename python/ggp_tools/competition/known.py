@@ -1,6 +1,6 @@
-"""A cache of facts about the files of a competition. The keys are checksums of everything on which the facts depend, so that outdated facts
-about a changed file are not found. The cache is in the user's cache directory, so a directory that comes from elsewhere cannot introduce
-false facts."""
+"""Caches facts about the files of a competition. The keys are checksums of everything on which the facts depend, so a lookup for a changed file
+never returns outdated facts. The cache is in the user's cache directory, so a competition's directory that comes from somebody else cannot
+contain false facts."""
 
 import dataclasses
 import hashlib
@@ -52,16 +52,16 @@ class Facts(pickle.Unpickler):
 
     def find_class(self, module: str, name: str) -> typing.Any:
         if module.startswith("ggp_tools.") and "." not in name:
-            found = super().find_class(module, name)
-            if isinstance(found, type) and dataclasses.is_dataclass(found):
-                return found
+            fact_type = super().find_class(module, name)
+            if isinstance(fact_type, type) and dataclasses.is_dataclass(fact_type):
+                return fact_type
         elif (module, name) in self.TYPES:
             return super().find_class(module, name)
         raise pickle.UnpicklingError(f"{module}.{name} is not a fact")
 
 
 def facts_in(data: bytes | None) -> dict[str, typing.Any]:
-    """Parses stored facts. If the bytes are not facts, returns an empty table."""
+    """Parses stored facts. If the bytes are not facts, returns an empty dictionary."""
     try:
         facts = Facts(io.BytesIO(data)).load() if data else {}
     except (RuntimeError, pickle.UnpicklingError):
@@ -70,8 +70,8 @@ def facts_in(data: bytes | None) -> dict[str, typing.Any]:
 
 
 class Known:
-    """The known facts about a competition's directory. Facts of one kind are a table from checksums to values. It is stored as bytes, which
-    are parsed only when the first fact of this kind is needed."""
+    """The known facts about a competition's directory. The facts of each kind are a dictionary from checksums to values. It is stored as bytes,
+    which are parsed only when the first fact of this kind is needed."""
 
     def __init__(self, folder: pathlib.Path) -> None:
         # The key includes the code, because another version may compute different facts, and cannot read these.

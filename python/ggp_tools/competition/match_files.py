@@ -1,4 +1,4 @@
-"""Checks the files of the matches. A match counts if it has a lawful record and a call log that reproduces this record."""
+"""Checks the files of matches. A match counts if it has a lawful record, and a call log that reproduces this record."""
 
 import contextlib
 import itertools
@@ -25,8 +25,8 @@ if TYPE_CHECKING:
     from ggp_tools.competition.plan import Plan
     from ggp_tools.descriptions.loading import Rules
 
-# At most this many matches are checked together. Their files are in memory at the same time. So together they have at most this many bytes,
-# unless a single match has more.
+# The maximum number of matches that are checked together. Their files are in memory at the same time, so together they have at most this many
+# bytes, unless a single match has more.
 TOGETHER, BYTES_TOGETHER = 250, 1 << 25
 # Only one batch at a time may have more bytes than this.
 LARGE = threading.Lock()
@@ -86,8 +86,8 @@ def account_bytes(folder: Folder, match: str) -> bytes | None:
 
 
 def fault_of_files(record: bytes, account: bytes | None, rules: bytes) -> str | None:
-    """Returns the reason why files cannot be passed to the referee, or None. Finds everything at which the referee would stop, and
-    everything that it would skip."""
+    """Returns the reason why the files of a match cannot be passed to the referee, or None. Such a reason is anything at which the referee would
+    stop reading, or which it would skip."""
     if account is None:
         return "its call log is missing"
     if len(account) > LONGEST_ACCOUNT:
@@ -104,7 +104,7 @@ def fault_of_files(record: bytes, account: bytes | None, rules: bytes) -> str | 
 
 
 def has_shape(record: object, roles: int) -> bool:
-    """Returns whether a JSON value has all parts of a record that determine a result."""
+    """Returns whether a JSON value has all those parts of a record that determine a result."""
     if not isinstance(record, dict):
         return False
     goals, errors = record.get("goalValues"), record.get("errors")
@@ -116,7 +116,7 @@ def has_shape(record: object, roles: int) -> bool:
 
 
 def unverified_result(folder: Folder, competition: Competition, rules: Mapping[str, "Rules"], match: Match) -> Result | None:
-    """Returns the result of a match from the record, which has not been checked yet. If there is no record, returns None."""
+    """Returns the result of a match from its record, which has not been checked yet. If there is no readable record of the match, returns None."""
     try:
         data = record_bytes(folder, match.id, rules[match.game].text)
         record = json.loads(without_states(data))
@@ -138,7 +138,7 @@ def referee_faults(plan: "Plan", referee: Referee, game: str, records: Sequence[
 
 
 def check_of(plan: "Plan", match: Match, data: bytes, fault: str | None) -> Check:
-    """Returns the check of a match. `fault` is None if the referee has accepted the record."""
+    """Returns the check of a match. `fault` is the error that the referee has reported, or None if it has accepted the files."""
     if fault:
         return Check(match, fault)
     record = read_record(data)
@@ -148,8 +148,8 @@ def check_of(plan: "Plan", match: Match, data: bytes, fault: str | None) -> Chec
 
 
 def sum_of_rule(plan: "Plan", referee: Referee, game: str) -> bytes | None:
-    """Returns a checksum of everything that the check of a match of a game depends on, except the files of the match. These things are the
-    program, the rules and two numbers of competition.toml. If a file cannot be read, returns None."""
+    """Returns a checksum of everything that the check of a game's match depends on, except the files of the match: the program, the rules, and
+    two numbers of competition.toml. If a file cannot be read, returns None."""
     competition = plan.competition
     try:
         sums = sum_of_file(referee.path), sum_of_file(plan.folder.rules_of(game))
@@ -159,21 +159,21 @@ def sum_of_rule(plan: "Plan", referee: Referee, game: str) -> bytes | None:
 
 
 def key_of_files(rule: bytes, match: Match, record: bytes, account: bytes | None) -> str:
-    """Returns the key under which the result of a match is known."""
+    """Returns the key under which the result of a match is cached."""
     return sum_of_parts(rule, repr(match).encode(), record, account or b"")
 
 
 def known_checks(plan: "Plan", referee: Referee, game: str, matches: Sequence[Match], known: Known) -> dict[str, Check]:
-    """Returns the checks of the matches of a game whose files are known, by match id."""
-    rule, rules, found = sum_of_rule(plan, referee, game), plan.rules[game].text, {}
+    """Returns, by match id, the checks of those matches of a game whose results are cached."""
+    rule, rules, by_id = sum_of_rule(plan, referee, game), plan.rules[game].text, {}
     for match in matches if rule else ():
         record = record_bytes(plan.folder, match.id, rules)
         key = key_of_files(rule, match, record, account_bytes(plan.folder, match.id))
         if result := known.get("results", key):
             is_same = result.has_forfeits == plan.competition.forfeit
-            found[match.id] = Check(match, result=result if is_same else replace(result, has_forfeits=plan.competition.forfeit))
+            by_id[match.id] = Check(match, result=result if is_same else replace(result, has_forfeits=plan.competition.forfeit))
             known.checked[match.id] = key, record_sum(record)
-    return found
+    return by_id
 
 
 def checks(plan: "Plan", referee: Referee, game: str, matches: Sequence[Match], known: Known | None = None) -> list[Check]:
@@ -187,7 +187,7 @@ def checks(plan: "Plan", referee: Referee, game: str, matches: Sequence[Match], 
         else:
             left.append((match, record, account))
     faults = referee_faults(plan, referee, game, [record for _, record, _ in left], [account for _, _, account in left]) if left else ()
-    # If the program or the rules have changed meanwhile, it is not known which version the referee used.
+    # If the program or the rules have changed meanwhile, the referee may have used either version.
     is_same = rule and rule == sum_of_rule(plan, referee, game)
     for (match, record, account), fault in zip(left, faults):
         check = done[match.id] = check_of(plan, match, record, fault)
@@ -198,9 +198,9 @@ def checks(plan: "Plan", referee: Referee, game: str, matches: Sequence[Match], 
 
 
 def in_threads(call: Callable[..., list[Check]], parts: Sequence[tuple]) -> Iterator[list[Check]]:
-    """Makes a call for each part. The referee takes most of the time, and each call has separate processes."""
+    """Makes a call for each part, in several threads. Most of the time is spent in the referee, which runs in separate processes for each call."""
     if parts:
-        # Loading this takes long, and usually everything is known.
+        # Loading this takes long, and it is usually not needed, because all results are cached.
         from concurrent.futures import ThreadPoolExecutor
 
         with ThreadPoolExecutor(PROCESSORS) as pool:
@@ -208,7 +208,7 @@ def in_threads(call: Callable[..., list[Check]], parts: Sequence[tuple]) -> Iter
 
 
 def check_records(plan: "Plan", referee: Referee, known: Known | None = None) -> tuple[dict[str, Result], dict[str, str], dict[str, str]]:
-    """Returns, by match id, the results of the matches that count, and the faults and misfits of all other matches that have a record."""
+    """Returns, by match id, the results of the matches that count, and the `fault` or `misfit` of each other match that has a record."""
     by_game: dict[str, list[Match]] = {}
     names = {file.name for file in os.scandir(plan.folder.records)} if plan.folder.records.is_dir() else ()
     for match in plan.matches:
@@ -225,9 +225,9 @@ def check_records(plan: "Plan", referee: Referee, known: Known | None = None) ->
     done, parts = [], []
     try:
         for game, matches in by_game.items():
-            found = known_checks(plan, referee, game, matches, known) if known and known.facts("results") else {}
-            done += found.values()
-            parts += [(game, batch) for batch in batches((match for match in matches if match.id not in found), size_of_match)]
+            from_cache = known_checks(plan, referee, game, matches, known) if known and known.facts("results") else {}
+            done += from_cache.values()
+            parts += [(game, batch) for batch in batches((match for match in matches if match.id not in from_cache), size_of_match)]
         done += itertools.chain.from_iterable(in_threads(check_batch, parts))
     except MemoryError:
         raise Unchecked("records and call logs can't be checked: out of memory") from None
@@ -242,7 +242,7 @@ def unplanned_records(plan: "Plan") -> list[str]:
 
 
 def free_ending(files: tuple[pathlib.Path, ...], word: str) -> str:
-    """Returns the first of the endings `.word`, `.word.2` and so on that none of the files has yet."""
+    """Returns the first of the endings `.word`, `.word.2`, `.word.3` and so on for which none of the files exists yet."""
     endings = itertools.chain([f".{word}"], (f".{word}.{count}" for count in itertools.count(2)))
     return next(ending for ending in endings if not any(file.with_name(file.name + ending).exists() for file in files))
 
@@ -253,8 +253,8 @@ def files_of(folder: Folder, match: str) -> tuple[pathlib.Path, ...]:
 
 
 def set_aside(plan: "Plan", match: str) -> bool:
-    """Renames the files of a match that does not count. Files that were renamed before keep their names. Returns whether there were files to
-    rename."""
+    """Renames the files of a match that does not count, without replacing files that were renamed before. Returns whether there were any
+    files."""
     files = files_of(plan.folder, match)
     existing = [file for file in files if file.exists()]
     ending = free_ending(files, "refused") if existing else ""
@@ -265,8 +265,8 @@ def set_aside(plan: "Plan", match: str) -> bool:
 
 def keep(folder: Folder, match: str, record: bytes, account: bytes, log: bytes, word: str | None = None) -> pathlib.Path:
     """Writes the files of a match. The record is written last, so a match that has a record also has the other files. If `word` is given,
-    the names of the files get an unused ending that contains it, and the match does not count. Returns the file of the record. If a file
-    cannot be written, deletes the files that were written before it."""
+    the names of the files end with this word, and the match does not count. Returns the path of the record. If a file cannot be written,
+    deletes the files that were written before it."""
     files = files_of(folder, match)
     ending = free_ending(files, word) if word else ""
     named = [file.with_name(file.name + ending) for file in files]

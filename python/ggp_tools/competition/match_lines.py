@@ -1,4 +1,4 @@
-"""The lines of matches.jsonl, one for each match that counts."""
+"""Makes the lines of matches.jsonl, one for each match that counts."""
 
 import io
 from collections.abc import Mapping, Sequence
@@ -21,8 +21,8 @@ def key_of(plan: Plan, result: str, sums: Sums, log: bytes) -> str:
 
 
 def line_of(plan: Plan, result: Result, sums: Sums, key: str) -> tuple[str, bytes]:
-    """Returns the line of a match in matches.jsonl, after the checksum of everything that determines the line. `key` is the key
-    under which the result is cached."""
+    """Returns the checksum of everything that determines the line of a match in matches.jsonl, and then the line. `key` is the key under which the
+    result is cached."""
     match = result.match
     data, log = plan.read_record(match), plan.folder.whole_log(match.id)
     sums, run = {**sums, "record": record_sum(data)}, logged(last_run(io.BytesIO(log), match.id))

@@ -22,8 +22,8 @@ if TYPE_CHECKING:
 # The referee ends INFO by itself after WHOLE seconds. If it ran out of a resource, it reports this within SOON more seconds.
 WHOLE, SOON = 10, 1
 FREE = ("available", "ready", "unknown")
-# The maximum number of bytes that a launcher may send before a match, and the maximum number of bytes that the log has for a message
-# besides its texts.
+# The maximum number of bytes that a launcher may send before a match, and the maximum number of bytes that a message takes in the log in
+# addition to its texts.
 MOST_BEFORE, MOST_OF_MESSAGE = 1 << 20, 1 << 10
 TOO_MUCH = "it sent more than {:,} bytes, which is more than any match needs"
 # If a match is lost with its node, its players must answer ABORT within this many seconds.
@@ -32,7 +32,7 @@ EVENT = b'{"event":'
 
 
 def leave_players(directory: pathlib.Path) -> None:
-    """Deletes all files in the directory of an open match except the one that names the players, so that the match no longer appears to be open."""
+    """Deletes all files in the directory of an open match except the one with its players, so that the match no longer appears to be open."""
     with contextlib.suppress(OSError):
         for file in directory.iterdir():
             if file.name != PLAYERS:
@@ -40,15 +40,14 @@ def leave_players(directory: pathlib.Path) -> None:
 
 
 def reason_of(done: Done, player: str) -> str:
-    """If the referee has reported why a player did not answer INFO, for example because the HTTP status is not 200, returns this reason in
-    parentheses."""
+    """Returns, in parentheses, the reason that the referee reported for a player that did not answer INFO, for example that the HTTP status is not
+    200. If there is no such reason, the text is empty."""
     start = f"ggp_manager: {player}: "
     return next((f" ({line.removeprefix(start)})" for line in message_lines(done.errors) if line.startswith(start)), "")
 
 
 class OpenMatch:
-    """An open match. At its end, it has either a result, or the reason why there is none. If it has neither, it waits to be played
-    later."""
+    """An open match. At its end, it has either a result or the reason why it has none. If it has neither, it will be played later."""
 
     def __init__(self, playing: "Playing", match: Match) -> None:
         self.playing, self.match = playing, match
@@ -65,7 +64,7 @@ class OpenMatch:
         self.is_broken, self.goes_on, self.stops_game = False, False, False
 
     async def go(self) -> None:
-        """Plays the match. If the match is ended while it is being played, `is_broken` is set."""
+        """Plays the match. If the match is broken off while it is being played, sets `is_broken`."""
         try:
             await in_thread(self.playing.disk, self.make_directory)
             if played := await (self.play_elsewhere() if self.playing.launcher else self.play_here()):
@@ -85,7 +84,7 @@ class OpenMatch:
         new_file(self.log).close()
 
     def name_players(self) -> None:
-        """Names the players of a match that begins. They must be sent ABORT if the referee ends before the match."""
+        """Writes a file with the players of a match that begins. If the referee ends before the match, these players must be sent ABORT."""
         write_whole(self.directory / PLAYERS, "".join(f"{place}\n" for place in self.places).encode())
         (self.directory / PLAYING).touch()
 
@@ -158,7 +157,7 @@ class OpenMatch:
         return not given_up and not again
 
     def run_words(self, log: pathlib.Path | str) -> list[str]:
-        """Returns the command line of the referee. The referee may run in another directory."""
+        """Returns the command line of the referee. Its paths are absolute, because the referee may run in another directory."""
         folder, game = self.plan.folder, self.match.game
         player_rules = None if self.plan.rules[game].player_rules is None else folder.player_rules_of(game).absolute()
         return self.referee.run_words(folder.rules_of(game).absolute(), player_rules, self.match, self.plan.competition.strikes, self.places, log)
@@ -168,20 +167,20 @@ class OpenMatch:
             file.write(line_of(event))
 
     async def play_here(self) -> bytes | None:
-        """Plays the match on this computer, and returns the referee's output. If the match is broken off or has not begun, returns None."""
+        """Plays the match on this computer, and returns the output of the referee. If the match is broken off or does not begin, returns None."""
         if not await self.can_be_played():
             return None
         self.reporter.begins(self.match)
         return self.outcome_of(await run(self.run_words(self.log.absolute())))
 
     def outcome_of(self, done: Done) -> bytes | None:
-        """Returns the output of the referee. If the exit status says that the referee has not played the match, returns None."""
+        """Returns the output of the referee, or None if the exit status shows that it has not played the match."""
         self.seconds = done.seconds
         if done.status:
             self.why, self.is_broken = done.message(), True
             # A started player may run as the same user, so it may have killed the referee.
             if done.status < 0 and (started := [player.name for player in self.players.of(self.match.players)]):
-                self.why += f"; started players that ran: {', '.join(started)}"
+                self.why += f"; these started players were running: {', '.join(started)}"
         return None if done.status else done.output
 
     async def play_elsewhere(self) -> bytes | None:
@@ -245,8 +244,8 @@ class MatchJob(Job):
             self.errors = (self.errors + line + b"\n")[-MOST_READ:]
 
     async def play(self) -> Done | None:
-        """Has the launcher run the job. When the job runs, the players are asked. If they are free, the job plays the match. Otherwise
-        returns None."""
+        """Has the launcher run the job. As soon as the job runs, asks the players. If they are free, the job plays the match. Otherwise, returns
+        None."""
         match, began = self.match, time.monotonic()
         self.start([word.replace("{match}", match.match.id) for word in match.playing.launcher.command])
         try:

@@ -1,7 +1,7 @@
 """Packs the files of an archive, and unpacks an archive that may be hostile.
 
-Programs unpack unusual tar files differently. So `unpack` accepts only the output of `pack`: from the values of each header it makes a new
-header, which must equal the given one."""
+Different programs unpack unusual tar files differently, so `unpack` accepts only the output of `pack`: from the values of each header, it
+makes a new header, and both must be equal."""
 
 import gzip
 import io
@@ -32,9 +32,9 @@ MOST_OF_FILES = {
 }
 # These files come first, because the matches determine which other files are allowed.
 FIRST = "competition.toml", "schedule.tsv"
-# The number of files of a match, and the maximum number of other files, including those of games and players.
+# The names of the files of matches, and the maximum number of all other files, including those of games and players.
 OF_MATCH, OTHER_FILES = re.compile(r"[^/]*/(?:records/(.+)\.json|accounts/(.+)\.txt|logs/(.+)\.jsonl|pages/matches/(.+)\.html)"), 10_000
-# Higher levels of compression take much longer, and save little.
+# Higher compression levels take much longer, and save little.
 LEVEL = 6
 OTHERWISE = "its bytes are not those that `publish` would write: the difference is"
 
@@ -54,7 +54,7 @@ def header(name: str, size: int) -> tarfile.TarInfo:
 
 
 def pack(file: BinaryIO, contents: Iterable[tuple[str, bytes]]) -> None:
-    """Writes an archive of the files in `contents`. The same contents always give the same archive."""
+    """Writes an archive of the files in `contents`. Packing the same contents again produces the same archive."""
     size = 0
     with gzip.GzipFile(filename="", mode="wb", fileobj=file, mtime=0, compresslevel=LEVEL) as packed, tarfile.open(fileobj=packed, mode="w|") as archive:
         for name, data in contents:
@@ -78,8 +78,8 @@ def read_all(stream: BinaryIO, size: int) -> bytes:
 
 
 def members(stream: BinaryIO) -> Iterator[tuple[str, int]]:
-    """Yields the name and the size of each file in a tar file. Before the caller asks for the next file, it must read the bytes of this one
-    with `copy`."""
+    """Yields the name and the size of each file in a tar file. The caller must read the bytes of a file with `copy` before it asks for the next
+    one."""
     while any(head := read_all(stream, tarfile.BLOCKSIZE)):
         if head[156:157] == tarfile.XHDTYPE:
             head += read_all(stream, 2 * tarfile.BLOCKSIZE)

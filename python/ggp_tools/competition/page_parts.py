@@ -1,4 +1,4 @@
-"""The pages of a competition consist of parts with names, so that a browser that shows a page can replace the parts that have changed."""
+"""Builds the pages of a competition from named parts, so that a browser that shows a page can replace the parts that have changed."""
 
 import json
 import typing
@@ -44,17 +44,17 @@ PageParts = list[Part | Items]
 
 
 def html_of(template: str, macro: str, **values: object) -> "Markup":
-    """Returns the HTML that a macro of a template makes from `values`."""
+    """Returns the HTML that a macro of a template generates from `values`."""
     return getattr(macros(template), macro)(**values).strip()
 
 
 def part(macro: str, /, has_content: object = True, **values: object) -> Part:
-    """Returns the part of a page that a macro of competition.html makes, or an empty part."""
+    """Returns the part of a page that a macro of competition.html generates, or an empty part if there is no content."""
     return Part(macro, html_of("competition", macro, **values) if has_content else "")
 
 
 def list_part(name: str, title: str, intro: str, rows: list[tuple["Match", str]], most: int, where: str = "") -> Part:
-    """Returns a list of matches without a result, each with a remark. The list has at most `most` rows, and says how many more there
+    """Returns a list of matches without a result, each with a remark. The list has at most `most` rows, and says how many more matches there
     are."""
     texts = {"title": title, "intro": intro, "rows": rows[:most], "more": len(rows[most:]), "where": where}
     return Part(name, html_of("competition", "match_list", **texts) if rows else "")

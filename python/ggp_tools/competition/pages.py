@@ -1,4 +1,4 @@
-"""The pages of a competition: a directory of plain HTML that a browser opens without a server. The pages are made only from the files of
+"""Makes the pages of a competition: a directory of plain HTML, which a browser opens without a server. The pages depend only on the files of
 the competition."""
 
 import functools
@@ -33,8 +33,8 @@ from ggp_tools.templating import environment, page
 if typing.TYPE_CHECKING:
     from markupsafe import Markup
 
-# While matches are played, the pages are written again after at least this many seconds, and so rarely that writing takes at most a tenth
-# of the time.
+# While matches are played, the pages are written again after at least SECONDS seconds, and so rarely that writing takes at most one part in
+# SHARE of the time.
 SECONDS, SHARE = 2, 10
 # The first page lists at most this many matches, and a crosstable has at most this many players.
 LAST, MOST_CROSSED = 20, 100
@@ -62,8 +62,8 @@ def standings(table: Table, up: str) -> PageParts:
 
 
 def first_ranks(table: Table, is_over: bool) -> list[tuple[str, list[str]]]:
-    """Returns the first three players of a competition, each with a title. If the competition is not over, returns only the leader; a
-    knockout has no leader."""
+    """Returns the players of the first three ranks of a competition, by title. If the competition is not over, returns only the leaders, or nothing
+    for a knockout."""
     titles = {1: "Winner", 2: "Second", 3: "Third"} if is_over else {1: "Leader"} if table.by != KNOCKOUT else {}
     by_rank: dict[int, list[str]] = {}
     for rank, line in zip(table.ranks(), table.standings()):
@@ -72,14 +72,14 @@ def first_ranks(table: Table, is_over: bool) -> list[tuple[str, list[str]]]:
 
 
 def seconds_of(log: Beginning) -> str:
-    """Returns how long a match took, as text. If the log does not have the times, the text is empty."""
+    """Returns how long a match took, as text. If the log has no times, the text is empty."""
     if log.began is None or not log.ended:
         return ""
     return "the clock was set back" if log.is_set_back or log.ended < log.began else f"{(log.ended - log.began) / 1_000:.1f}"
 
 
 def spelt(time: str | None) -> str:
-    """Formats the time of an event in a log to the second."""
+    """Formats the time of an event, to the second."""
     return (time or "").replace("T", " ")[:19]
 
 
@@ -105,7 +105,7 @@ def matches_part(rows: list[Item], title: str = "Matches") -> Items:
 
 
 def pages_of_all(results: list[Result]) -> dict[str, list[Result]]:
-    """Returns the pages of the list of all matches, by name, each with its matches. There is at least one page."""
+    """Returns the matches on each page of the list of all matches, by the name of the page. There is at least one page."""
     starts = range(0, len(results), MOST_LISTED) or [0]
     return {f"matches{f'-{at}' if at > 1 else ''}": results[start : start + MOST_LISTED] for at, start in enumerate(starts, 1)}
 
@@ -119,14 +119,14 @@ def rules_part(rules: Rules) -> Part:
 
 
 def match_page(data: bytes, game: Callable[[], Game] | None, answers: dict[tuple[int, int], str], frame: Frame) -> bytes:
-    """Returns the page of a match. It is the page of `ggp-show-record` for the match's record, with a head."""
+    """Returns the page of a match: a head, and then the page that `ggp-show-record` makes of the record."""
     return page_of(read_record(data), game, answers, frame)
 
 
 @dataclass(frozen=True)
 class Ended:
-    """What the pages show of a finished match: when it began and ended, its rows on the first page and on pages below it, and the
-    appearances of its players. If the log of the match is too long, these were made from its last lines only."""
+    """The data that the pages show about a finished match: when it began and ended, its rows on the first page and on pages below it, and the
+    appearances of its players. `is_cut` is set if the log of the match is too long, so that only its last lines were read."""
 
     result: Result
     begin: str | None
@@ -138,7 +138,7 @@ class Ended:
 
 
 def ended_match(result: Result, record: dict, run: list[Event], is_cut: bool) -> Ended:
-    """Returns what the pages show of a match, given its record and the last run in its log."""
+    """Returns the data that the pages show about a match, from its record and the last run in its log."""
     log = logged(run)
     begin, end, _ = log.times()
     above, below = (match_row(result, log, up) for up in ("", "../"))
@@ -146,13 +146,13 @@ def ended_match(result: Result, record: dict, run: list[Event], is_cut: bool) ->
 
 
 def need_modules() -> None:
-    """Ends the command at once if a module is missing."""
+    """Ends the command at once if a module that the pages need is missing."""
     environment()
     loaded_ratings()
 
 
 class Site:
-    """Makes the contents of a competition's pages from its results. `ended` must contain the matches of these results. With `shows_gaps`,
+    """Makes the contents of a competition's pages from its results. `ended` must have an entry for the match of each result. With `shows_gaps`,
     the first page lists the matches without a record."""
 
     def __init__(self, plan: Plan, shows_gaps: bool = False) -> None:
@@ -161,8 +161,8 @@ class Site:
         self.games = {game.name: game for game in plan.competition.games}
 
     def add(self, result: Result, known: Known | None = None) -> bytes:
-        """Reads what the pages show of a match, unless it is already known, and returns the match's record. Raises `NoRecord` if the record
-        is too long."""
+        """Reads the data that the pages show about a match, unless it is cached, and returns the match's record. Raises `NoRecord` if the record is
+        too long."""
         match = result.match
         data = self.plan.read_record(match)
         log, is_cut = self.plan.folder.part_of_log(match.id, MOST_OF_LOG)
@@ -182,7 +182,7 @@ class Site:
         return html_of("competition", "way_of_match", match=result.match, **texts)
 
     def named(self, game: str) -> Named:
-        """Returns how the boards of a game are drawn. Does not read rules that are too long."""
+        """Returns how the pages draw the boards of a game. Does not read rules that are too long."""
         rules = self.plan.rules[game].text
         return named_in(rules if len(rules) <= MOST_RULES else b"", self.games[game].board == BOARDS[1])
 
@@ -192,8 +192,8 @@ class Site:
         return {(role, error.turn - 1): error.answer for role, error in errors if error.error == "IL ?" and error.message}
 
     def match_work(self, result: Result) -> tuple[Callable[[], Game] | None, dict[tuple[int, int], str], Frame]:
-        """Returns the arguments of `match_page` that follow the record. If a move was illegal, and the rules are not too long, they include
-        the game, so that the page can list the legal moves."""
+        """Returns the arguments of `match_page` after the record. They include the game if a move was illegal and the rules are not too long, so that
+        the page can list the legal moves."""
         rules = self.plan.rules[result.match.game].text
         game = functools.partial(game_of, rules) if any(errors["IL"] for errors in result.errors) and len(rules) <= MOST_RULES else None
         return game, self.answers(result), Frame(self.match_head(result), self.named(result.match.game), winner_words(result))
@@ -221,7 +221,7 @@ class Site:
         return list_part("gaps", "Matches without a record", "They do not count.", missing, MOST_LISTED, ", listed in GAPS.tsv")
 
     def span(self, results: list[Result]) -> tuple[str, str]:
-        """Returns when the first match began, and when the last one ended. If no log has the times, the texts are empty."""
+        """Returns when the first match began, and when the last one ended. If no log has these times, both texts are empty."""
         ended = [self.ended[result.match.id] for result in results]
         begins, ends = [match.begin for match in ended if match.begin], [match.end for match in ended if match.end]
         return (spelt(min(begins)), spelt(max(ends))) if begins and ends else ("", "")
@@ -239,7 +239,7 @@ class Site:
         return [head, *rounds, *standings(tables[0], ""), method, self.gaps(results), self.last_matches(results)]
 
     def all_matches(self, results: list[Result], name: str) -> PageParts:
-        """Returns a page of the list of all matches, with links to the others."""
+        """Returns one page of the list of all matches, with links to the other pages."""
         pages = pages_of_all(results)
         head = Part("head", html_of("competition", "all_matches", name=self.plan.competition.name))
         spans = [(page, f"{own[0].match.id} to {own[-1].match.id}") for page, own in pages.items()] if len(pages) > 1 else []
@@ -297,11 +297,11 @@ class Pages:
         if not known:
             need_modules()
         self.site, self.plan, self.folder, self.known = Site(plan, shows_gaps), plan, plan.folder.pages, known
-        # When the pages may be written again; on what each page depended when it was made; and the checksums of the pages.
+        # The time before which the pages must not be written again; by name, what each page was made from; and the checksums of the pages.
         self.next, self.keys, self.sums = 0.0, {}, {}
 
     def write_now_and_then(self, results: Callable[[], list[Result]]) -> None:
-        """Writes the pages for the results that a function returns. Does nothing if it has tried to write them a short time ago."""
+        """Writes the pages for the results that the function `results` returns. Does nothing if it tried to write them only a short time ago."""
         began = time.monotonic()
         if began < self.next:
             return
@@ -348,7 +348,7 @@ class Pages:
         return {name: self.sums[name] for name in [*pages, *(f"matches/{result.match.id}.html" for result in results)]}
 
     def write_matches(self, results: list[Result]) -> None:
-        """Writes the pages of matches. Skips pages that this object has written, and pages whose checksum is known to be right."""
+        """Writes the pages of matches. Skips pages that this object has already written, and pages whose checksum is right according to the cache."""
         left, size = [], 0
         for result in results:
             name = f"matches/{result.match.id}.html"
@@ -367,7 +367,7 @@ class Pages:
         self.make_matches(left)
 
     def make_matches(self, works: list[tuple[str, str, tuple]]) -> None:
-        """Writes pages of matches, each given by its name, its key, and the arguments of `match_page`."""
+        """Writes pages of matches. Each item of `works` has the name and the key of a page, and the arguments of `match_page`."""
         for (name, key, _), data in zip(works, made_side_by_side(match_page, [work for _, _, work in works])):
             self.put(name, data)
             if self.known:
@@ -386,5 +386,5 @@ class Pages:
 
 
 def titled(plan: Plan, title: str) -> str:
-    """Returns the title of a page with the name of the competition. The title of the first page is only this name."""
+    """Returns the full title of a page, which begins with the name of the competition. The title of the first page is only this name."""
     return f"{plan.competition.name}: {title}" if title else plan.competition.name

@@ -1,4 +1,4 @@
-"""Plans a competition: writes the rules and the schedule, extends them later, and reads them again."""
+"""Plans a competition: writes its rules and its schedule, extends them later, and reads them."""
 
 import functools
 import itertools
@@ -110,7 +110,7 @@ def not_planned(path: Path) -> Refused:
 
 
 def sums_text(sums: Mapping[str, str]) -> bytes:
-    """Returns the text of a file with the checksums `sums`, which are given by file name, in the format of `sha256sum`."""
+    """Formats checksums, which are given by file name, as `sha256sum` does."""
     return "".join(f"{digest}  {name}\n" for name, digest in sorted(sums.items())).encode("utf-8")
 
 
@@ -133,8 +133,8 @@ def is_played(folder: Folder) -> bool:
 
 
 def is_begun(folder: Folder) -> bool:
-    """Returns whether matches have been played. A plan has a history only after matches have been played. So even if the records are gone,
-    the history shows this."""
+    """Returns whether matches have been played. A plan has a history only after matches have been played, so the history shows this even if the
+    records are gone."""
     return is_played(folder) or bool(history_files(folder))
 
 
@@ -203,8 +203,8 @@ def loaded_games(folder: Folder, competition: Competition, referee: Referee) -> 
 
 
 def refuse_addresses(folder: Folder, competition: Competition) -> dict[str, str]:
-    """Refuses players that no match can reach or start, and several players at one address. Returns the current address of each player that
-    has one, because a host name may lead to another player later."""
+    """Refuses players that can't be reached or started, and several players at one address. Returns the current address of each player that has
+    one, because a host name may lead to another player later."""
     from ggp_tools.competition.started_players import mistakes_of_programs
 
     places = places_now(competition)
@@ -214,7 +214,7 @@ def refuse_addresses(folder: Folder, competition: Competition) -> dict[str, str]
 
 
 def seeds_of(folder: Folder, competition: Competition) -> Path | None:
-    """Returns the file with the seeds from another competition, or None. Once matches have been played, the file is the copy that `plan`
+    """Returns the table of another competition that gives the seeds, or None. Once matches have been played, this is the copy that `plan` has
     made."""
     if not competition.seeds or is_begun(folder) and folder.seeds.exists():
         return folder.seeds if competition.seeds else None
@@ -252,7 +252,7 @@ def make_plan(path: str, referee: Referee, is_preview: bool = False) -> Plan:
                 **({folder.seeds: read_file(seeds)} if seeds else {}),
                 **files,
                 folder.description_sums: sums_text({f"{name}.kif": ground.description_sum for name, ground in rules.items()}),
-                # Without these checksums, the other files do not count. So an interrupted `plan` must run again.
+                # Without these checksums, the other files do not count, so an interrupted `plan` must run again.
                 folder.rule_sums: sums_text({file.name: sum_of(data) for file, data in files.items()}),
                 folder.planned: text,
                 folder.schedule: schedule_text(schedule.matches),
@@ -261,8 +261,8 @@ def make_plan(path: str, referee: Referee, is_preview: bool = False) -> Plan:
 
 
 def history_of(folder: Folder, competition: Competition, rules: Mapping[str, Rules]) -> tuple[History, dict[Path, bytes]]:
-    """Returns the history of a competition that has been played, and the last planned version, if it must be stored. If competition.toml
-    now asks for other matches, the history ends with that version."""
+    """Returns the history of a competition whose matches have been played. If competition.toml now requests other matches than the version that
+    `plan` read last, the history ends with that version. Also returns the files that `plan` must write to store that version."""
     before, history = planned_before(folder, competition), read_history(folder, competition)
     if before is None or shape(before) == shape(competition):
         return history, {}
@@ -275,8 +275,8 @@ def history_of(folder: Folder, competition: Competition, rules: Mapping[str, Rul
 
 
 def planned_before(folder: Folder, competition: Competition) -> Competition | None:
-    """Returns the competition that `plan` read last, or None. Refuses changes to values that must stay the same, because matches have been
-    played."""
+    """Returns the version of the competition that `plan` read last, or None. Refuses changes to values that must not change once matches have
+    been played."""
     if not folder.planned.exists():
         return None
     before = competition_of_file(folder.planned, read_toml_file(folder.planned), folder.seeds)
@@ -317,8 +317,8 @@ def write_plan(folder: Folder, is_begun: bool, files: dict[Path, bytes]) -> None
 
 
 def faults_of_descriptions(plan: Plan, path_of: Callable[[Game], Path], advice: str = "") -> Iterator[str]:
-    """Yields an error for each description that is not the one from which the rules were made. `path_of` returns the file of a game's description. If
-    the file of the checksums is missing, the advice is added to the error."""
+    """Yields an error for each description that is not the one from which the rules were made. `path_of` returns the path of a game's description.
+    If the file with the checksums is missing, the error includes the advice."""
     path = plan.folder.description_sums
     if not path.is_file():
         yield f"{path} is missing: it has the checksums of the descriptions{advice}"
@@ -354,8 +354,7 @@ def read_rules(folder: Folder, competition: Competition, referee: Referee) -> di
 
 
 def read_plan(path: str, referee: Referee) -> Plan:
-    """Returns the competition that was planned in a directory. If the rules or the schedule differ from the plan, refuses the
-    competition."""
+    """Reads the plan in a directory. Refuses rules and schedules that differ from what `plan` writes for this competition.toml."""
     folder = Folder(path)
     folder.refuse_old_logs()
     text = read_toml_file(folder.competition)
@@ -371,7 +370,7 @@ def read_plan(path: str, referee: Referee) -> Plan:
                 refuse_lost_record(folder, growing)
             raise refused_plan(folder, folder.schedule)
     except Refused:
-        # If rounds were paired by records that do not count, the schedule differs.
+        # The schedule may differ because rounds were paired by records that do not count.
         if is_by_rounds(competition):
             _, faults, misfits = check_records(Plan(folder, competition, rules, matches_in(rows_of(folder.schedule), competition)), referee)
             if wrong := [f"{folder.record(match)}: {why}" for match, why in {**faults, **misfits}.items()]:
@@ -388,7 +387,7 @@ def read_plan(path: str, referee: Referee) -> Plan:
 
 
 def refuse_lost_record(folder: Folder, growing: Growing) -> None:
-    """Refuses a schedule with a further round, which cannot be planned if a match of the round before has no record."""
+    """Refuses a schedule with a round that can't be planned again, because a match of the round before it has no record."""
     number = len(growing.rounds.found)
     lost = [match.id for match in growing.of_round(number) if match.counts() and growing.result_of(match) is None]
     if lost:
@@ -414,7 +413,7 @@ def rounds_left(plan: Plan) -> int:
 
 
 def next_plan(plan: Plan, results: Mapping[str, Result]) -> Plan | None:
-    """Returns the plan with the next round, which is not written yet. If the last round is not over, or there are no more rounds, returns
+    """Returns the plan extended by the next round, and writes nothing. If the last round is not over, or there are no more rounds, returns
     None."""
     if not rounds_left(plan) or any(match.id not in results and match.counts() for match in plan.matches):
         return None
@@ -425,8 +424,8 @@ def next_plan(plan: Plan, results: Mapping[str, Result]) -> Plan | None:
 
 
 def plan_next_round(plan: Plan, results: Mapping[str, Result]) -> list[Match]:
-    """If the last planned round is over and there is a next round, plans the next round, writes the schedule, and returns the new
-    matches."""
+    """If the last planned round is over, plans the next round, writes the schedule, and returns the new matches. Otherwise, or if there are no
+    more rounds, returns no matches."""
     if not (following := next_plan(plan, results)):
         return []
     write_whole(plan.folder.schedule, schedule_text(following.matches))
@@ -462,7 +461,7 @@ def replaceable_match(plan: Plan, referee: Referee, match_id: str) -> Match:
 
 
 def order_again(path: str, referee: Referee, match_id: str, reason: str) -> Match:
-    """Plans a match that replaces the match with this id, stores the reason, and returns the new match."""
+    """Plans a rematch that replaces the match with this id, stores the reason, and returns the new match."""
     if not REASON.fullmatch(reason):
         raise Refused("--reason: expected 1 to 200 printable ASCII characters, without a space at either end")
     with held(path):
@@ -470,7 +469,7 @@ def order_again(path: str, referee: Referee, match_id: str, reason: str) -> Matc
         match = replaceable_match(plan, referee, match_id)
         history = replace(plan.history, again=(*plan.history.again, Again(plan.next_id(), match.id, reason)))
         schedule = schedule_of(plan.folder, plan.competition, plan.rules, history, len(plan.matches) + 1)
-        # The schedule is written last: if this is interrupted, `plan` writes the schedule.
+        # The schedule is written last. If this command is interrupted before, `plan` writes it.
         write_whole(plan.folder.again, again_text(history.again))
         write_whole(plan.folder.schedule, schedule_text(schedule.matches))
     return schedule.matches[-1]

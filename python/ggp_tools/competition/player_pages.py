@@ -1,4 +1,4 @@
-"""The page of a player: its rank and rating, its goals by game and role and over time, its response times, its errors and its matches."""
+"""Makes the page of a player: its rank and rating, its goals by game and role and over time, its response times, its errors and its matches."""
 
 import itertools
 from collections import Counter
@@ -73,7 +73,7 @@ def errors_of_role(record: dict, role: int, asked: list[Message]) -> tuple[MoveE
 
 
 def appearances_of(result: Result, record: dict, run: Sequence[Event], ended: str | None) -> list[Appearance]:
-    """Returns the appearance of each role's player in a match, from the last run in the log of the match."""
+    """Returns the appearance of each player in a match, by role, from the last run in the log of the match."""
     by_role = [[message for message in messages(run) if message.role == role] for role in range(len(result.match.players))]
     return [
         Appearance(result, role, record["roles"][role], ended or "", *times_of_role(asked), errors_of_role(record, role, asked))
@@ -85,7 +85,7 @@ def appearances_of(result: Result, record: dict, run: Sequence[Event], ended: st
 
 
 def page_name(player: str) -> str:
-    """Returns the file of a player's page. The prefix is needed because a player's name may begin with a period."""
+    """Returns the path of a player's page. The file name needs a prefix, because a player's name may begin with a period."""
     return f"players/player-{player}.html"
 
 
@@ -116,7 +116,7 @@ def longest_text(times: list[int | None]) -> str:
 
 
 def reason_of(error: str) -> str:
-    """Returns the meaning of an error. In a log, a reason may follow the error."""
+    """Explains an error. In a log, a reason may follow the error."""
     kind = error.partition(" ")[0]
     if kind == SHORTAGE:
         return "the referee lacked a resource"

@@ -1,4 +1,4 @@
-"""Plays the matches of a competition that have no lawful record yet. It plays many at the same time, and begins each one when its players
+"""Plays the matches of a competition that have no lawful record yet. Plays many matches at the same time, and begins each one when its players
 are free."""
 
 import asyncio
@@ -50,11 +50,11 @@ class Playing:
         self.plan, self.referee, self.reporter = plan, referee, reporter
         self.slots, self.launcher = Slots(plan.competition), plan.competition.launcher
         self.at_once = self.launcher.slots if self.launcher else at_once
-        # `news` is set after an interrupt, and when it is possible that further matches can begin. `ends` is set when there is another
+        # `news` is set after an interrupt, and whenever further matches may be able to begin. `ends` is set when there is another
         # result.
         self.news, self.ends = asyncio.Event(), asyncio.Event()
         self.players, self.checking = StartedPlayers(plan.folder, plan.competition, referee, reporter), Checking(plan, referee)
-        # By match id: the results, and the reasons why matches have none. By game: why no more of its matches begin.
+        # By match id: the results, and the reasons why other matches have none. By game: why no more of its matches begin.
         self.results, self.left, self.stopped = {}, {}, {}
         # By game: for each finished match, the seconds from its INFO to its end.
         self.took: dict[str, list[float]] = {}
@@ -62,13 +62,13 @@ class Playing:
         self.waiting: deque[Match] = deque()
         # `searched_at` is the time of the last search for matches that can begin.
         self.interrupts, self.is_full, self.searched_at = 0, False, 0.0
-        # The threads that wait for the disk before a match. Checks of matches, which may take long, have others.
+        # The threads that wait for the disk before a match. Checks of matches may take long, so they run in other threads.
         self.disk: concurrent.futures.Executor | None = None
         self.group: asyncio.TaskGroup | None = None
         self.watch: Callable[[dict], str | None] | None = None
 
     def may_begin(self, match: Match | None = None) -> bool:
-        """Returns whether more matches may begin. If a match is given, whose players are free, returns whether it may begin."""
+        """Returns whether more matches may begin or, if a match is given, whether it may begin. The players of this match must be free."""
         return not self.interrupts and not self.is_full and not (match and match.game in self.stopped)
 
     def begin(self) -> None:
@@ -115,7 +115,7 @@ class Playing:
             self.waiting.append(match)
 
     def stop_game(self, match: Match) -> None:
-        """Because the rules of a game are wrong, begins no more of its matches. Open matches are played to their ends."""
+        """Begins no more matches of a game, because its rules are wrong. Open matches are played to their ends."""
         self.stopped[match.game] = f"{match.game} is not played any more, because {match.id} does not follow its description"
         others = [waiting for waiting in self.waiting if waiting.game == match.game]
         self.left.update((other.id, self.stopped[match.game]) for other in others)
@@ -124,7 +124,7 @@ class Playing:
         self.reporter.line(f"stopped {match.game}, because {match.id} does not follow its description; {waiting}")
 
     async def go(self) -> None:
-        """Plays until no match is open, and no further match waits or may begin."""
+        """Plays until no match is open, and no waiting match may begin."""
         async with asyncio.TaskGroup() as self.group:
             shown = [self.group.create_task(self.show_progress()), self.group.create_task(self.show_results())]
             while self.is_going_on():
@@ -135,14 +135,14 @@ class Playing:
         self.reporter.clear()
 
     def is_going_on(self) -> bool:
-        """Returns whether a match is open, or a match waits and may begin. If the output is no longer read, or the journal cannot be
-        written, no match may begin."""
+        """Returns whether a match is open, or a waiting match may begin. If the output is no longer read, or the journal can't be written, lets no
+        more matches begin."""
         if self.reporter.fault and not self.interrupts:
             self.interrupts = 1
         if (fault := self.reporter.journal.fault) and not self.is_full:
             self.is_full = True
             self.reporter.line(f"{fault.filename} can't be written: {fault.strerror}; no more matches begin")
-        # A match whose players are being asked can't begin any more, and a launcher may take long to run it.
+        # Matches whose players are being asked can't begin any more. They are cancelled, because their launcher may take long.
         for open_match, task in self.open.items() if not self.may_begin() else ():
             if open_match.stage == ASKING and not task.cancelling():
                 self.waiting.append(open_match.match)
@@ -150,7 +150,7 @@ class Playing:
         return bool(self.open or self.waiting and self.may_begin())
 
     async def wait_for_news(self) -> None:
-        """Waits until matches may begin or have ended, or until a player has rested."""
+        """Waits until `news` is set, or until a player has rested."""
         idle_until = self.slots.idle_until
         until = idle_until if self.waiting and self.may_begin() and self.searched_at < idle_until < math.inf else None
         with contextlib.suppress(TimeoutError):
@@ -168,7 +168,7 @@ class Playing:
             await asyncio.sleep(REDRAWN)
 
     async def show_results(self) -> None:
-        """When there are new results, calls `watch` in a thread, so that matches can continue in the meantime."""
+        """Calls `watch` when there are new results. The call runs in a thread, so that matches can continue in the meantime."""
         while self.watch:
             await self.ends.wait()
             self.ends.clear()
@@ -280,8 +280,8 @@ def open_directories(plan: Plan) -> dict[pathlib.Path, list[str]]:
 
 
 def abort_open_matches(playing: Playing, directories: dict[pathlib.Path, list[str]]) -> None:
-    """Sends ABORT to the players of matches that were open when an earlier `play` was killed. The players that this `play` had started have
-    ended by now."""
+    """Sends ABORT to the players of matches that were open when an earlier `play` was killed. Players that the earlier `play` had started are left
+    out, because they have ended by now."""
     left = {}
     for directory, places in directories.items():
         others = [place for place in places if place.partition("@")[0] not in playing.players.players]
@@ -295,8 +295,8 @@ def abort_open_matches(playing: Playing, directories: dict[pathlib.Path, list[st
 
 
 def set_all_aside(playing: Playing, faults: dict[str, str]) -> None:
-    """Renames files that do not count, because the record has one of these errors or is missing. Reports what happens to each match. A
-    match that was replaced by another one is not played again."""
+    """Renames the files of matches that do not count, because their record is missing or has an error in `faults`. Reports what happens to each
+    match. A match that was replaced by another one is not played again."""
     for match in playing.plan.matches:
         if match.id not in playing.results and set_aside(playing.plan, match.id):
             fault = faults.get(match.id)
@@ -321,7 +321,7 @@ def prepare(playing: Playing) -> None:
         raise Refused(f"{folder.records / others[0]} belongs to no match of the schedule{more}", advice)
     directories = open_directories(plan)
     if count := sum(bool(places) and not folder.record(directory.name).exists() for directory, places in directories.items()):
-        # This is reported first, because checking the records takes a while, and waiting for players that do not answer takes even longer.
+        # This is reported first, because checking the records takes a while, and waiting for silent players takes even longer.
         reporter.line(f"open {counted(count, 'match')} of an earlier `play`; {'its' if count == 1 else 'their'} players are sent ABORT")
     reporter.draw("checking the records")
     playing.results, faults, misfits = check_records(plan, playing.referee)
@@ -336,11 +336,11 @@ def prepare(playing: Playing) -> None:
 
 
 def play(playing: Playing) -> dict[str, str]:
-    """Plays all matches. The caller must hold the lock of the directory. Returns the reason for each match without a lawful record."""
-    # Usually a shell lets a process open too few files for many open matches.
+    """Plays all matches. The caller must have locked the directory. Returns the reason for each match without a lawful record, by match id."""
+    # The usual limit of open files is too low for many open matches.
     allow_files()
     if sys.version_info < (3, 12):
-        # By default, there would be a thread for each process.
+        # The default child watcher would start a thread for each process.
         asyncio.set_child_watcher(asyncio.PidfdChildWatcher())
     prepare(playing)
     with apart(playing.plan.folder.mark()):

@@ -13,7 +13,7 @@ WIDTH, ROW, MARGIN = 640, 20, 8
 NAMES, FIGURES = 150, 90
 MOST_ROWS, MOST_POINTS = 100, 200
 HEIGHT = 120
-# Each bar of response times ends at twice the milliseconds of the previous bar. The last one has all longer times.
+# Each bar of response times ends at twice the milliseconds of the previous bar. The last bar has all longer times.
 BARS = 18
 
 

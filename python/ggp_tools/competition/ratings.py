@@ -22,8 +22,8 @@ MOST_STEPS, CLOSE = 100, 1e-8
 
 
 def groups(points: numpy.ndarray) -> list[list[int]]:
-    """Returns the largest groups of players in which a chain leads from each player to every other player. In a chain, each player has
-    points against the next one. The groups are in the order of their first players."""
+    """Returns the largest groups of players in which a chain leads from each player to every other player. A chain is a row of players in which
+    each has points against the next one. The groups are in the order of their first players."""
     leads = (points > 0) | numpy.eye(len(points), dtype=bool)
     # Each step doubles the length of the chains that are considered.
     for _ in range(len(points).bit_length()):
@@ -57,8 +57,9 @@ def likeliest(points: numpy.ndarray) -> list[tuple[float, float]] | None:
 
 
 def rated(players: Sequence[str], points: Mapping[tuple[str, str], float], anchors: Mapping[str, int] = MappingProxyType({})) -> dict[str, Rating]:
-    """Returns the rating of each player. `points` has the points of each pair's first player against the second: 1 for a win, and a half
-    for a draw. The ratings of a group with anchors are shifted, so that the anchors have the given mean."""
+    """Returns the rating of each player. `points` has, for each pair, the points of the first player against the second: 1 for a win, and
+    a half for a draw. The ratings of a group with anchors are shifted, so that the mean of the anchors' ratings is that of the
+    ratings given for them."""
     numbers, matrix = {player: number for number, player in enumerate(players)}, numpy.zeros((len(players), len(players)))
     for (player, opponent), count in points.items():
         matrix[numbers[player], numbers[opponent]] = count

@@ -13,8 +13,8 @@ MOST_REPLACED, MOST_OF_MATCH = 20, 3
 
 @dataclass(frozen=True)
 class Replaced:
-    """A replaced move: the error, the move that was played instead, the time of the last answer of its turn, and how many moves of its match were
-    replaced before."""
+    """A replaced move: the error, the move that was played instead, the time of the last answer in its turn, and how many moves of the match were
+    replaced before it."""
 
     match: Match
     player: str

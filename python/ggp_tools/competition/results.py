@@ -1,4 +1,4 @@
-"""Computes the result of a match from its record and the forfeit rules of the competition, and its row in matches.jsonl."""
+"""Computes the result of a match from its record and from the forfeit rules of the competition, and the row of the match in matches.jsonl."""
 
 import json
 import threading
@@ -17,7 +17,7 @@ if TYPE_CHECKING:
     from ggp_tools.descriptions.loading import Rules
 
 WON, DRAWN, LOST = "won", "drawn", "lost"
-# The goal that a player's single opponent gets if the player forfeits. If the match was aborted, several opponents share it.
+# If a player forfeits, a single opponent gets this goal. Several opponents share it if the match was aborted.
 FULL_GOAL = 100
 # The maximum length of a wrong value in a message.
 MOST_CITED = 200
@@ -27,8 +27,8 @@ GAMES = threading.Lock()
 
 @dataclass(frozen=True)
 class Retirement:
-    """The reason why a role was retired or has forfeited its match: the kinds of its errors, the last turn with an error, and, if the turns
-    with errors are not consecutive, the first such turn."""
+    """The reason why a role was retired or has forfeited its match: the kinds of its errors, the last turn with such an error, and, if these turns
+    are not consecutive, the first one."""
 
     errors: tuple[str, ...]
     turn: int
@@ -43,8 +43,8 @@ class Retirement:
 
 @dataclass(frozen=True)
 class Result:
-    """The result in a record: for each role the goal (none if the match has none), the number of errors of each kind, and why it was
-    retired. `has_forfeits` says whether retired players forfeit. `lapses` says which players forfeit because of too many replaced moves."""
+    """The result in a record: for each role, the goal (if the match has goals), the number of errors of each kind, and why the role was retired.
+    `has_forfeits` says whether retired players forfeit. `lapses` says, for each role, why it forfeits because of too many replaced moves."""
 
     match: Match
     goals: tuple[int, ...]
@@ -66,12 +66,12 @@ class Result:
     def forfeits(self) -> dict[int, Retirement]:
         """Returns the roles whose players have forfeited the match, with the reasons."""
         retired = self.retirements if self.has_forfeits else ()
-        return {role: why for whys in (self.lapses, retired) for role, why in enumerate(whys) if why}
+        return {role: why for reasons in (self.lapses, retired) for role, why in enumerate(reasons) if why}
 
     def counted(self) -> tuple[int | None, ...]:
-        """Returns the goals that count, by role. If the match has no goals, each is None. A player that forfeits gets 0. A single opponent
-        gets the full goal, because its own goal depends on moves that no player chose. Several opponents keep their goals, or share the
-        full goal if there are none."""
+        """Returns the goals that count, by role. If the match has no goals and no forfeits, each goal is None. A player that forfeits gets 0. A
+        single opponent gets the full goal, because its own goal depends on moves that no player chose. Several opponents keep their goals, or
+        share the full goal if the match has no goals."""
         lost, roles = self.forfeits(), range(len(self.retirements))
         if not lost:
             return self.goals or (None,) * len(roles)
@@ -86,7 +86,7 @@ class Result:
         return None if None in goals else tuple(-1 if role in lost else goal for role, goal in enumerate(goals))
 
     def outcome(self, role: int) -> str | None:
-        """Returns whether a role has won, drawn or lost. If the match has one role, or no goals that count, returns None."""
+        """Returns the outcome for a role: WON, DRAWN or LOST. If the match has only one role, or no goals that count, returns None."""
         worth = self.worths() or ()
         others = worth[:role] + worth[role + 1 :]
         if not others:
@@ -106,7 +106,7 @@ def forfeit_words(result: Result) -> str:
 
 
 def winner_words(result: Result) -> str:
-    """Says who won a match, or who drew. If the match has one role, or no goals that count, the text is empty."""
+    """Says who won a match, or who drew. If the match has only one role, or no goals that count, the text is empty."""
     return winner_of_worths(result.match.players, result.worths() or ())
 
 
@@ -147,12 +147,12 @@ def fault_of_record(record: dict, match: Match, strikes: int) -> str | None:
 
 
 def kind_of(error: str) -> str:
-    """Returns an error without the answer."""
+    """Returns the kind of an error. It does not contain the answer of the player."""
     return "IL" if error.startswith("IL ") else error
 
 
 def retirement_of(record: dict, role: int) -> Retirement | None:
-    """If a role was retired, returns the reason, otherwise None. A role is retired if its moves were replaced in `strikes` turns in a
+    """Returns the reason why a role was retired, or None if it was not. A role is retired when its moves were replaced in `strikes` turns in a
     row."""
     row: list[str] = []
     for number, turn in enumerate(record["errors"] if record["strikes"] else (), 1):
@@ -166,7 +166,7 @@ def retirement_of(record: dict, role: int) -> Retirement | None:
 
 
 def result_of(record: dict, match: Match, has_forfeits: bool = False, lapses: tuple[Retirement | None, ...] = ()) -> Result:
-    """Returns the result of a match from its record. The docstring of `Result` explains `has_forfeits` and `lapses`."""
+    """Returns the result of a match from its record. The class `Result` explains `has_forfeits` and `lapses`."""
     roles = range(len(match.players))
     errors = tuple(Counter(kind_of(turn[role]) for turn in record["errors"] if turn[role]) for role in roles)
     retirements = tuple(retirement_of(record, role) for role in roles)
@@ -175,8 +175,8 @@ def result_of(record: dict, match: Match, has_forfeits: bool = False, lapses: tu
 
 
 def lapse_of(record: dict, data: bytes, rules: "Rules", role: int, most: int) -> Retirement | None:
-    """If a role has lost a match because of this many replaced moves, returns the reason, otherwise None. If the ground rules give the role
-    only one legal move in a turn, the turn does not count."""
+    """Returns the reason why a role has lost a match because of `most` replaced moves, or None if it has not. Turns in which the role had only
+    one legal move do not count."""
     errors, lapses = [turn[role] for turn in record["errors"]], []
     if len(errors) - errors.count("") < most:
         return None
@@ -200,13 +200,13 @@ def counted_result(record: dict, data: bytes, match: Match, competition: Competi
 
 
 def read_record(data: bytes) -> dict:
-    """Parses a lawful record, but not its states."""
+    """Parses a lawful record, without its states."""
     return json.loads(without_states(data))
 
 
 def result_keys(result: Result) -> dict[str, object]:
-    """Returns the keys about the end of a match. If there is a forfeit, they say whose it is, why, and which goals count. There are also
-    keys about the round, about rematches, and about players that have withdrawn, if these exist."""
+    """Returns the keys about the end of a match. If players forfeit, keys say which players, why, and which goals count. Further keys describe the
+    round, rematches, and players that have withdrawn, if there are any."""
     match, keys = result.match, {"goals": result.goals}
     if lost := result.forfeits():
         keys["forfeit"] = [{"player": match.players[role], "errors": why.errors, "turn": why.turn} for role, why in lost.items()]
@@ -217,8 +217,8 @@ def result_keys(result: Result) -> dict[str, object]:
 
 
 def match_line(result: Result, sums: Mapping[str, str | None], logged: Beginning, broken: list[dict[str, object]]) -> bytes:
-    """Returns a match as one line of JSON. `sums` has the checksums of the record, of the rules, and of the description from which these
-    were made, and `broken` has the broken answers with their reasons."""
+    """Returns a match as one line of JSON. `sums` has the checksums of the record, of the rules, and of the description from which the
+    rules were made. `broken` has the broken answers with their reasons."""
     match = result.match
     values = {
         "id": match.id,

@@ -1,4 +1,4 @@
-"""The rounds of a Swiss competition or a knockout on the pages: their number, the pairings, and the results."""
+"""Makes the parts of pages about the rounds of a Swiss competition or a knockout: their number, their pairings, and the results."""
 
 from collections.abc import Iterator
 
@@ -14,9 +14,9 @@ from ggp_tools.competition.table_text import count_of_planned, points_text
 
 # A round, a pair of players (the second may be missing), and their points, goals and matches.
 Row = tuple[int, tuple[str, str], list[str]]
-# A place in a bracket: the player, its points, and whether it advances. As long as the player is not known, its name is empty.
+# A place in a bracket: the name of its player, the player's points, and whether the player advances. The name is empty until it is known.
 Place = tuple[str, str, bool]
-# A bracket shows only rounds with at most this many pairs. If a player has no opponent, BYE is shown instead.
+# A bracket shows only rounds with at most this many pairs. If a player has no opponent, it shows BYE instead of the opponent.
 MOST_PAIRS, BYE = 32, "(bye)"
 
 
@@ -26,7 +26,7 @@ def count_of_all(plan: Plan) -> int:
 
 
 def rounds_words(plan: Plan) -> str:
-    """Says how many rounds are planned, and how many matches later rounds have. Without rounds, the text is empty."""
+    """Says how many rounds are planned, and how many matches the later rounds have. If there are no rounds, the text is empty."""
     if not plan.rounds:
         return ""
     left = matches_to_come(plan.competition, plan.rounds)
@@ -35,7 +35,7 @@ def rounds_words(plan: Plan) -> str:
 
 
 def round_text(competition: Competition, match: Match) -> str:
-    """Names the round of a match. If the match has no round, the text is empty."""
+    """Says in which round a match is. If the match has no round, the text is empty."""
     return f"Round {match.round} of {rounds_of(competition)}." if match.round else ""
 
 
@@ -58,7 +58,7 @@ def rows_of(competition: Competition, planned: Round, of_meeting: dict[Meeting, 
 
 
 def bracket_part(plan: Plan, results: list[Result]) -> Part:
-    """Returns the bracket of a knockout, which may be at the end of a Swiss competition."""
+    """Returns the bracket of a knockout. The knockout may be the final of a Swiss competition."""
     if not plan.rounds[swiss_rounds(plan.competition) :]:
         return Part("bracket", "")
     rounds = [pairs for pairs in bracket_rounds(plan, [result for result in results if result.match.counts()]) if len(pairs) <= MOST_PAIRS]

@@ -1,6 +1,5 @@
-"""Plans the rounds of a Swiss competition and of a knockout. The results of the earlier rounds determine the pairs of the next round, as
-"Swiss and knockout" in docs/COMPETITION.md describes. When two players are paired, they play a match in each game for each order of the
-roles."""
+"""Plans the rounds of a Swiss competition or a knockout. The results of the earlier rounds determine the pairs of the next round, as "Swiss and
+knockout" in docs/COMPETITION.md describes. The two players of a pair play each game twice, once in each order of the roles."""
 
 import itertools
 from collections import Counter, defaultdict
@@ -17,8 +16,8 @@ Meeting = tuple[int, frozenset[str]]
 
 @dataclass(frozen=True)
 class Round:
-    """A round: its number, counted from 1; its pairs; its byes; and the players that were withdrawn before it because they were absent,
-    with the reason."""
+    """A round: its number, counted from 1; its pairs; the players with a bye; and the players that were withdrawn before this round because they
+    were absent, each with the reason."""
 
     number: int
     pairs: tuple[tuple[str, str], ...]
@@ -46,15 +45,15 @@ class Scores:
         self.opponents: dict[str, list[str]] = defaultdict(list)
         self.met: Counter[frozenset[str]] = Counter()
 
-    def count_round(self, found: Round, withdrawn: Mapping[str, str], of_meeting: Mapping[Meeting, list[Result]]) -> None:
-        """Counts the pairs and the byes. A match that is not played, or does not count, because a player has withdrawn gives points like a
-        bye."""
-        for bye in found.byes:
+    def count_round(self, planned: Round, withdrawn: Mapping[str, str], of_meeting: Mapping[Meeting, list[Result]]) -> None:
+        """Counts the pairs and the byes of a round. If a match is not played or does not count because a player has withdrawn, the other player
+        gets a point for it, as in a bye."""
+        for bye in planned.byes:
             self.byes[bye] += 1
             self.points[bye] += self.meeting
-        for pair in found.pairs:
+        for pair in planned.pairs:
             self.met[frozenset(pair)] += 1
-            lacking = self.meeting - len(of_meeting[found.number, frozenset(pair)]) if withdrawn.keys() & pair else 0
+            lacking = self.meeting - len(of_meeting[planned.number, frozenset(pair)]) if withdrawn.keys() & pair else 0
             for name, opponent in (pair, pair[::-1]):
                 if lacking < self.meeting:
                     self.opponents[name].append(opponent)
@@ -90,7 +89,7 @@ def swiss_rounds(competition: Competition) -> int:
 
 
 def matches_to_come(competition: Competition, rounds: Sequence[Round]) -> int:
-    """Returns how many matches there are in the rounds that are not planned yet, with the current players."""
+    """Returns how many matches the rounds that are not planned yet will have if no more players withdraw."""
     swiss = swiss_rounds(competition) - len(rounds)
     if swiss < 0 or competition.form.kind == KNOCKOUT:
         # Each pairing eliminates one player.
@@ -102,7 +101,7 @@ def matches_to_come(competition: Competition, rounds: Sequence[Round]) -> int:
 
 def withdrawn_by(competition: Competition, rounds: Iterable[Round]) -> dict[str, str]:
     """Returns the players that have withdrawn, or that were withdrawn before one of `rounds`, each with the reason."""
-    return {name: why for found in rounds for name, why in found.absent} | competition.withdrawn()
+    return {name: why for planned in rounds for name, why in planned.absent} | competition.withdrawn()
 
 
 def withdrawn_words(name: str, why: str) -> str:
@@ -114,7 +113,7 @@ def is_by_rounds(competition: Competition) -> bool:
 
 
 def paired(order: Sequence[str], met: Counter[frozenset[str]]) -> list[tuple[str, str]]:
-    """Splits an even number of players, who are given in order, into pairs."""
+    """Splits an even number of players, which are given in the order of the standings, into pairs."""
     rest, pairs = list(order), []
     while rest:
         first = rest.pop(0)
@@ -128,8 +127,8 @@ def paired(order: Sequence[str], met: Counter[frozenset[str]]) -> list[tuple[str
 
 
 def exchange(pairs: list[tuple[str, str]], at: int, met: Counter[frozenset[str]]) -> None:
-    """Exchanges a player of a pair with a player of the nearest pair above, or else below, if then neither pair has met before. If there is
-    no such pair, this pair stays."""
+    """Swaps a player of a pair with a player of another pair, so that neither of the two new pairs has met before. Tries the pairs above, the
+    nearest first, and then the pairs below. If no such swap exists, changes nothing."""
     first, other = pairs[at]
     for beside in (*range(at - 1, -1, -1), *range(at + 1, len(pairs))):
         high, low = pairs[beside]
@@ -143,14 +142,14 @@ def swiss_round(competition: Competition, number: int, scores: Scores, withdrawn
     order = sorted((player.name for player in competition.players if player.name not in withdrawn), key=scores.swiss_order)
     byes: tuple[str, ...] = ()
     if len(order) % 2:
-        # Of the players with the fewest byes, the lowest in the standings gets the bye.
+        # Among the players with the fewest byes, the lowest in the standings gets the bye.
         byes = (min(reversed(order), key=lambda player: scores.byes[player]),)
         order.remove(byes[0])
     return Round(number, tuple(paired(order, scores.met)), byes)
 
 
 def bracket(count: int) -> list[int]:
-    """Returns the seeds, counted from 0, in the order of the bracket, extended to a power of two."""
+    """Returns the seeds, counted from 0, in the order of the bracket. Their number is a power of two that is at least `count`."""
     seeds = [0]
     while len(seeds) < count:
         seeds = [place for seed in seeds for place in (seed, 2 * len(seeds) - 1 - seed)]
@@ -169,9 +168,10 @@ def winner(pair: tuple[str, str], results: Collection[Result], scores: Scores, w
 
 
 def knockout_round(size: int, names: Sequence[str], before: Sequence[Round], winners: Collection[str | None], withdrawn: Mapping[str, str]) -> Round:
-    """Returns the next round of a knockout of this size, with these seeds. The earlier rounds are over, and `winners` are those of the last one."""
+    """Returns the next round of a knockout. `size` is the number of its players, and `names` has them in the order of their seeds. The rounds
+    `before` are over, and `winners` are the winners of the last one."""
     places: list[str | None] = [names[seed] if seed < len(names) else None for seed in bracket(size)]
-    for going_on in [*(found.players() for found in before[1:]), {*winners, *before[-1].byes}] if before else ():
+    for going_on in [*(earlier.players() for earlier in before[1:]), {*winners, *before[-1].byes}] if before else ():
         places = [next((name for name in pair if name and name in going_on), None) for pair in zip(places[::2], places[1::2])]
     places = [None if name in withdrawn else name for name in places]
     pairs = list(zip(places[::2], places[1::2]))
@@ -203,10 +203,10 @@ class Rounds:
             self.scores = scores_of(competition, self.found, self.results, withdrawn)
         self.withdrawn = withdrawn
         if len(self.found) < swiss_rounds(competition):
-            found = swiss_round(competition, len(self.found) + 1, self.scores, withdrawn)
+            following = swiss_round(competition, len(self.found) + 1, self.scores, withdrawn)
         else:
-            found = self.next_of_knockout(competition, by_meeting(results))
-        return replace(found, number=len(self.found) + 1, absent=tuple(new.items()))
+            following = self.next_of_knockout(competition, by_meeting(results))
+        return replace(following, number=len(self.found) + 1, absent=tuple(new.items()))
 
     def next_of_knockout(self, competition: Competition, of_meeting: Mapping[Meeting, list[Result]]) -> Round:
         """Returns the next round of a knockout: between all players, or between the best players of the earlier rounds."""
@@ -228,13 +228,13 @@ class Rounds:
                 plays[player].append(result.is_absent(role))
         self.absences.update(player for player, absences in plays.items() if all(absences))
 
-    def add(self, found: Round) -> None:
-        self.found.append(found)
-        self.scores.count_round(found, {}, {})
+    def add(self, planned: Round) -> None:
+        self.found.append(planned)
+        self.scores.count_round(planned, {}, {})
 
 
 def scores_and_seeds(competition: Competition, rounds: Sequence[Round], results: Iterable[Result]) -> tuple[Scores, list[str]]:
-    """Returns the scores of the rounds before a knockout, from the results that count, and the players in the order of the knockout's seeds."""
+    """Returns the scores of the rounds before a knockout, from the results that count, and all players in the order of the knockout's seeds."""
     swiss = swiss_rounds(competition)
     of_swiss = [result for result in results if result.match.round <= swiss]
     scores = scores_of(competition, rounds[:swiss], of_swiss, withdrawn_by(competition, rounds))
@@ -242,39 +242,39 @@ def scores_and_seeds(competition: Competition, rounds: Sequence[Round], results:
 
 
 def by_meeting(results: Iterable[Result]) -> dict[Meeting, list[Result]]:
-    found: dict[Meeting, list[Result]] = defaultdict(list)
+    grouped: dict[Meeting, list[Result]] = defaultdict(list)
     for result in results:
-        found[result.match.round, frozenset(result.match.players)].append(result)
-    return found
+        grouped[result.match.round, frozenset(result.match.players)].append(result)
+    return grouped
 
 
 def rounds_won(competition: Competition, rounds: Sequence[Round], results: Iterable[Result], seeds: Sequence[str]) -> Counter[str]:
     """Returns how many rounds of the knockout each player has won, by a bye or by a pairing that is over."""
     of_meeting, withdrawn, rounds_of_it = by_meeting(results), withdrawn_by(competition, rounds), rounds[swiss_rounds(competition) :]
     won = Counter(dict.fromkeys(rounds_of_it[0].players(), 0) if rounds_of_it else {})
-    for found, following in itertools.zip_longest(rounds_of_it, rounds_of_it[1:]):
-        won.update(found.byes)
-        for pair in found.pairs:
-            of_pair = of_meeting[found.number, frozenset(pair)]
+    for current, following in itertools.zip_longest(rounds_of_it, rounds_of_it[1:]):
+        won.update(current.byes)
+        for pair in current.pairs:
+            of_pair = of_meeting[current.number, frozenset(pair)]
             going_on = following.players().intersection(pair) if following else ()
             if going_on or len(of_pair) == 2 * len(competition.games) or withdrawn.keys() & pair:
                 won.update([*going_on] or filter(None, [winner(pair, of_pair, Scores(competition), withdrawn, seeds)]))
     return won
 
 
-def meetings(competition: Competition, found: Round) -> list[tuple[str, tuple[str, str]]]:
+def meetings(competition: Competition, planned: Round) -> list[tuple[str, tuple[str, str]]]:
     """Returns the matches of a round: for each game, all pairs in one order of the roles, and then all pairs in the other order."""
-    return [(game.name, pair[::turn]) for game in competition.games for turn in (1, -1) for pair in found.pairs]
+    return [(game.name, pair[::turn]) for game in competition.games for turn in (1, -1) for pair in planned.pairs]
 
 
 def scores_of(competition: Competition, rounds: Sequence[Round], results: Iterable[Result], withdrawn: Mapping[str, str] | None = None) -> Scores:
-    """Returns the scores of these rounds. `withdrawn` has the players that have withdrawn, which determines the results that count. By
-    default, these are the players that competition.toml or the rounds name as withdrawn."""
+    """Returns the scores of these rounds. The players in `withdrawn` determine which results count. By default, these are the players that
+    competition.toml or the rounds list as withdrawn."""
     withdrawn = withdrawn_by(competition, rounds) if withdrawn is None else withdrawn
     scores, counted = Scores(competition), [result for result in results if not competition.is_void(result.match.players, withdrawn)]
     of_meeting = by_meeting(counted)
-    for found in rounds:
-        scores.count_round(found, withdrawn, of_meeting)
+    for planned in rounds:
+        scores.count_round(planned, withdrawn, of_meeting)
     for result in counted:
         scores.count_result(result)
     return scores

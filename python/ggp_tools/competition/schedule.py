@@ -1,5 +1,5 @@
-"""Computes the matches of a competition: the game and the players of each, and schedule.tsv. The same competition always gives the same
-matches."""
+"""Computes the matches of a competition, each with its game and its players, and the text of schedule.tsv. The matches of the same competition
+are always the same."""
 
 import base64
 import hmac
@@ -23,8 +23,8 @@ ROW = re.compile(rb"([A-Za-z0-9_.-]{1,60})\t([A-Za-z0-9_.-]{1,40})\t([0-9]{1,5})
 @dataclass(frozen=True)
 class Match:
     """A match: its id, its game, its clocks, its players' names in the order of the roles, and its round, if there are rounds. If another
-    match replaces it, `again` is that match, and `reason` the reason; `instead_of` is the match that this one replaces. If the match does
-    not count or is not played because a player has withdrawn, `withdrawn` names the player."""
+    match replaces it, `again` is that match, and `reason` says why. If it replaces another match, `instead_of` is that match. If it does not count
+    or is not played because a player has withdrawn, `withdrawn` names the player."""
 
     id: str
     game: str
@@ -49,9 +49,9 @@ class Match:
 
 
 def circle_steps(count: int, roles: int, rounds: int) -> Iterator[tuple[int, ...]]:
-    """Imagines the players in a circle, and yields for each block of matches the distances from the player of the first role to the players
-    of all roles. A block has one match for each place in the circle, so each player plays each role once. With two roles, each distance
-    occurs once in a round. With more roles, each distance is one at which players have met least often."""
+    """Places the players in a circle. Yields, for each block of matches, the distances from the player of the first role to the players of all
+    roles. A block has one match for each place in the circle, so each player plays each role once. With two roles, each distance occurs once in a
+    round. With more roles, each distance is one at which players have met least often."""
     if roles == 1:
         yield from [(0,)] * rounds
         return
@@ -141,7 +141,7 @@ def id_of(competition: Competition, number: int, width: int, key: bytes) -> str:
 
 
 def matches_in(schedule: Iterable[bytes], competition: Competition) -> list[Match]:
-    """Returns the matches in the rows of a schedule, without rows that are not matches of the competition."""
+    """Returns the matches in the rows of a schedule. Skips rows that are not matches of the competition."""
     games, names = {game.name for game in competition.games}, {player.name for player in competition.players}
     rows = ([field.decode("ascii") for field in row.groups()] for line in schedule if (row := ROW.fullmatch(line)))
     matches = [Match(match, game, int(start), int(play), tuple(players.split())) for match, game, start, play, players in rows]

@@ -1,4 +1,4 @@
-"""Calls a function for many matches, in several processes."""
+"""Calls a function for many matches. Several processes share the calls."""
 
 import itertools
 import os
@@ -12,7 +12,7 @@ from ggp_tools.referee import Unchecked
 PROCESSORS = min(8, len(os.sched_getaffinity(0)))
 # With at least this many calls, several worker processes share them. Each process takes this many calls at a time.
 MANY, CHUNK = 100, 16
-# A worker process inherits these: the function, and the arguments of each call.
+# The function, and the arguments of each call. A worker process inherits both.
 WORK: list[typing.Any] = []
 
 
@@ -28,8 +28,8 @@ def called(at: int) -> object:
 
 
 def made_side_by_side(function: Callable[..., object], calls: Sequence[tuple]) -> Iterator[typing.Any]:
-    """Yields what a function returns for each of these arguments, in order. If there are many calls, several processes share them, unless
-    this process has other threads, because then it cannot fork safely."""
+    """Calls a function with each of these arguments, and yields its results in order. If there are many calls, several processes share them, unless
+    this process has other threads, because then it can't fork safely."""
     if len(calls) < MANY or PROCESSORS == 1 or threading.active_count() > 1:
         yield from itertools.starmap(function, calls)
         return
@@ -40,4 +40,4 @@ def made_side_by_side(function: Callable[..., object], calls: Sequence[tuple]) -
         try:
             yield from pool.map(called, range(len(calls)), chunksize=CHUNK)
         except concurrent.futures.process.BrokenProcessPool:
-            raise Unchecked("matches can't be checked, or pages made: a process was killed, for example because memory is short") from None
+            raise Unchecked("matches can't be checked, or pages can't be made: a process was killed, for example because it was out of memory") from None

@@ -10,13 +10,13 @@ from ggp_tools.competition.schedule import Match
 
 
 class Slots:
-    """The free slots of each player, and how often in a row each player did not answer or was busy."""
+    """Counts the free slots of each player, and how many times in a row each player was busy or did not answer."""
 
     def __init__(self, competition: Competition) -> None:
         self.free = {player.name: player.concurrent for player in competition.players}
         self.rests_until = dict.fromkeys(self.free, 0.0)
         self.failed = dict.fromkeys(self.free, 0)
-        # For each player, when its last failed try ended.
+        # When the last failed try of each player ended.
         self.failed_at = dict.fromkeys(self.free, 0.0)
         self.tries, self.wait = competition.tries, competition.wait
         # Unless a match ends, no match can begin before this time.
@@ -38,9 +38,9 @@ class Slots:
         self.failed[player] = 0
 
     def count_failure(self, player: str, taken_at: float) -> bool:
-        """Records that a player did not answer for a match that took its slots at `taken_at`. Returns whether to ask the player again,
-        which ends after several failed tries in a row. If the player was asked for several matches at the same time, that counts as one
-        try."""
+        """Records that a player was busy or did not answer when it was asked for a match that took its slots at `taken_at`. Returns whether to ask
+        the player again, which is not the case after `tries` failed tries in a row. If the player was asked for several matches at the same
+        time, that counts as one try."""
         if taken_at <= self.failed_at[player]:
             return self.failed[player] < self.tries
         self.idle_until = 0.0

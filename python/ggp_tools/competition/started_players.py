@@ -44,7 +44,7 @@ class PlayerLog:
         self.begin = self.size
 
     def mark(self, text: str) -> None:
-        """Writes a line that separates the output of an earlier start from the output of the next one."""
+        """Writes a line that separates the output after an earlier start from the output after the next one."""
         if self.size:
             self.write(f"---- {moment()} {text}\n".encode())
         self.begin = self.size
@@ -60,13 +60,13 @@ class PlayerLog:
             if self.size > MOST_BYTES:
                 os.replace(self.path, f"{self.path}.1")
                 self.begin = 0
-            # Only the owner can read the log, as is the case for the directory of open matches.
+            # Only the owner can read the log, just like the directory of open matches.
             with open(self.path, "ab", buffering=0) if self.path.exists() else new_file(self.path) as file:
                 file.write(data)
                 self.size = file.tell()
 
     def last_lines(self) -> list[str]:
-        """Returns the last lines since the last start. If the file is missing, returns none."""
+        """Returns the last lines that the player has written since its last start. If the file is missing, returns no lines."""
         try:
             return message_lines(file_bytes(self.path)[self.begin :][-MOST_READ:])[-LAST_LINES:]
         except OSError:
@@ -82,7 +82,7 @@ class StartedPlayer:
         self.job, self.address, self.port, self.was_started, self.has_answered = None, NOWHERE, 0, False, False
         self.lock, self.matches, self.reported_lines = asyncio.Lock(), set(), []
         self.watching: asyncio.Task | None = None
-        # The reason why the player is not running and will not be started again, if that is the case.
+        # If the player is not running and will not be started again, the reason.
         self.over = ""
         # The addresses of other players that a launcher must not report, by name. One player at a time compares its address with them.
         self.known: Callable[[], dict[str, str]] = dict
@@ -95,8 +95,7 @@ class StartedPlayer:
         return self.job is not None and not self.job.running.done()
 
     async def ready(self, match: str) -> None:
-        """If the player is not running, starts it for a match. If it does not start, reports this, and the player is silent in the
-        match."""
+        """If the player is not running, starts it for a match. If it does not start, reports this. The player is then silent in the match."""
         async with self.lock:
             if self.command.restart == EACH_MATCH:
                 await self.end()
@@ -135,7 +134,7 @@ class StartedPlayer:
             self.reporter.line(f"down {match} {self.name}: | {line}")
 
     async def came_up(self) -> str:
-        """Starts the process, and waits until it answers INFO. If it does not, returns the reason, otherwise an empty text."""
+        """Starts the process, and waits until it answers INFO. Returns an empty text, or the reason why it does not answer."""
         command, launcher = self.command, launcher_of(self.folder, self.name, self.command)
         job = self.job = Job(self.log.take, self.log.take, command.queue_seconds, END_SECONDS)
         job.start(launcher, {"words": [program_of(self.folder, self.command.words[0]), *command.words[1:]], "player": {
@@ -151,8 +150,8 @@ class StartedPlayer:
         return f"it did not {what} within {command.start_seconds} s; it may need more `start_seconds`{more}"
 
     async def answers(self, job: Job) -> str | None:
-        """Waits until the player answers INFO. Returns an empty text then, the reason if its address is that of another player, or None if it has ended or
-        its time is over."""
+        """Waits until the player answers INFO, and returns an empty text. If the address that it reports is that of another player, returns an
+        error. If it ends or its time is over, returns None."""
         until, pause = time.monotonic() + self.command.start_seconds, FIRST_PAUSE
         if not await job.reports(job.has_player, self.command.start_seconds):
             return None
@@ -172,8 +171,8 @@ class StartedPlayer:
         return None
 
     async def other_there(self) -> str:
-        """Returns an error if another player is known to be at the address that a launcher reported, or an empty text. The launcher's computer may be
-        hostile, and must not direct the messages to another player."""
+        """Returns an error if the address that a launcher reported is known to be that of another player, or an empty text. The launcher's computer
+        may be hostile, and must not direct messages to another player."""
         known = self.known() if self.command.launcher else {}
         names = await asyncio.to_thread(lambda: [name for name, address in known.items() if are_same(self.address, address)]) if known else []
         return f"it reported the address of {names[0]}, {self.address}" if names else ""
@@ -186,7 +185,7 @@ class StartedPlayer:
             self.reporter.line(f"died {match}{self.name}: {words}{last}")
 
     def with_restart(self, why: str) -> str:
-        """Returns the reason why the player is not running. If the player is never restarted, the reason also says so."""
+        """Returns the reason why the player is not running. If the player is never restarted, the reason says this, too, and `over` is set."""
         if self.command.restart == NEVER:
             why = self.over = f"{why}, and it is not started again because of `restart = \"never\"`"
         return why
@@ -209,7 +208,7 @@ class StartedPlayers:
 
     def __init__(self, folder: Folder, competition: Competition, referee: Referee, reporter: Reporter) -> None:
         self.competition = competition
-        # The addresses that were looked up for the other players, and that stay the same in all matches.
+        # The addresses of the other players. They are looked up once, and stay the same in all matches.
         self.addresses: dict[str, str] = {}
         players = [player for player in competition.players if player.command]
         self.players = {player.name: StartedPlayer(folder, player, number, referee, reporter) for number, player in enumerate(players)}
@@ -226,7 +225,7 @@ class StartedPlayers:
         return self.addresses.get(name) or self.competition.player(name).place()
 
     def known(self) -> dict[str, str]:
-        """Returns the addresses of the players, by name. That of a player with a launcher counts once the player has answered there."""
+        """Returns the known addresses of the players, by name. A player with a launcher has a known address once it has answered there."""
         running = [player for player in self.players.values() if player.is_running()]
         started = {player.name: player.address for player in running if player.has_answered or not player.command.launcher}
         return {player.name: player.address for player in self.competition.players if not player.command} | started

@@ -1,4 +1,4 @@
-"""Starts `ggp_competition`. If Ctrl-C is pressed while the modules are loaded, the command ends without a message."""
+"""Starts `ggp_competition`. If you press Ctrl-C while the modules are loaded, the command ends without a message."""
 
 import signal
 

@@ -20,8 +20,8 @@ FINAL = "final"
 
 @dataclass(frozen=True)
 class Rating:
-    """A player's rating, half the length of its 95% interval, and the group within which ratings can be compared. A player without a group
-    has no rating. A group has no ratings if they cannot be computed, because floating-point numbers are too imprecise for its results."""
+    """A player's rating, half the length of its 95% interval, and the group within which ratings can be compared. A player without a group has no
+    rating. The players of a group have no ratings if floating-point numbers are too imprecise to compute them."""
 
     rating: float | None
     half: float | None
@@ -46,7 +46,7 @@ class Line:
     absent: int = 0
     retired: int = 0
     rating: Rating | None = None
-    # Only the table of all games of a competition in rounds has byes.
+    # These have values only in the table of all games, and only if the competition is played in rounds.
     byes: int = 0
     round_points: float | None = None
     buchholz: float | None = None
@@ -74,9 +74,9 @@ class Line:
 
 @dataclass
 class Table:
-    """The table of a game, or of all games: the lines by player, the order of the lines, and the matches that rematches replace. For each
-    pair of players, it has the points of the first against the second, and the number of times that they met. The table of all games also
-    has the rounds, and remarks about withdrawn players."""
+    """The table of a game, or of all games: the lines by player, the order of the lines, and the matches that rematches replace. For each pair of
+    players, it has the points of the first against the second, and how many times they met. The table of all games also has the rounds, and
+    remarks about withdrawn players."""
 
     game: str
     lines: dict[str, Line]
@@ -124,8 +124,8 @@ def count_player(line: Line, result: Result, role: int) -> None:
 
 
 def count_pairs(table: Table, result: Result) -> None:
-    """For the two players of each pair in a match, counts that they have met, unless both have forfeited. The higher goal wins. Equal goals
-    are half a win for each."""
+    """Counts a meeting for each pair of players in a match, unless both have forfeited. The player with the higher goal wins. If the goals are
+    equal, each player gets half a win."""
     worths = result.worths() or ()
     for (player, worth), (other, beside) in itertools.permutations(zip(result.match.players, worths), 2):
         if worth != beside or worth >= 0:
@@ -134,12 +134,12 @@ def count_pairs(table: Table, result: Result) -> None:
 
 
 def count_rounds(table: Table, competition: Competition, results: Iterable[Result]) -> None:
-    """Counts the rounds in the table of all games."""
+    """Adds the byes, points, Buchholz scores and won rounds to the table of all games."""
     counted, swiss = [result for result in results if result.match.counts()], swiss_rounds(competition)
     scores, seeds = scores_and_seeds(competition, table.rounds, counted)
     won = rounds_won(competition, table.rounds, counted, seeds)
     for player, line in table.lines.items():
-        line.byes = sum(player in found.byes for found in table.rounds) if not swiss else scores.byes[player]
+        line.byes = sum(player in planned.byes for planned in table.rounds) if not swiss else scores.byes[player]
         if swiss:
             line.round_points, line.buchholz = scores.points[player], scores.buchholz(player)
         line.rounds_won = won.get(player, None if swiss else 0)
@@ -155,7 +155,7 @@ def loaded_ratings() -> Callable[..., dict[str, Rating]]:
 
 
 def ratings_of(table: Table, anchor: Mapping[str, int], known: Known | None) -> dict[str, Rating]:
-    """Returns the ratings of the players of a table. If the ratings are known, numpy, which takes long to load, is not loaded."""
+    """Returns the ratings of the players of a table. If they are cached, does not load numpy, which would take long."""
     names = [line.player for line in table.lines.values() if line.matches]
     key = sum_of_parts(repr((names, sorted(table.points.items()), sorted(anchor.items()))).encode()) if known else ""
     ratings = known.get("ratings", key) if known else None

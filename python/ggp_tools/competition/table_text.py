@@ -28,12 +28,12 @@ METHOD = (
 def forfeit_rule(competition: Competition) -> str:
     """Explains how a player forfeits a match, and which goals count then. If no player can forfeit a match, the text is empty."""
     most = competition.faults.replaced
-    whys = ["it was retired"] * competition.forfeit + [f"{most:,} or more of its moves were replaced (forced moves do not count)"] * bool(most)
+    conditions = ["it was retired"] * competition.forfeit + [f"{most:,} or more of its moves were replaced (forced moves do not count)"] * bool(most)
     counts = (
         f"It then gets 0. In a match of two players its opponent gets {FULL_GOAL}. "
         f"In a larger match the others keep their goals; if that match was aborted, they share {FULL_GOAL}."
     )
-    return f"A player loses a match if {', or if '.join(whys)}. {counts}" if whys else ""
+    return f"A player loses a match if {', or if '.join(conditions)}. {counts}" if conditions else ""
 
 
 def method_of(competition: Competition) -> str:
@@ -43,24 +43,24 @@ def method_of(competition: Competition) -> str:
 
 
 def in_order(plan: Plan, results: Mapping[str, Result]) -> list[Result]:
-    """Returns the results in the order of the schedule. Each result gets the match as the present schedule has it."""
+    """Returns the results in the order of the schedule. The match of each result is replaced with the one in the current schedule."""
     pairs = ((results[match.id], match) for match in plan.matches if match.id in results)
     return [result if result.match is match else replace(result, match=match) for result, match in pairs]
 
 
 def without_record(plan: Plan, results: Iterable[Result]) -> list[Match]:
-    """Returns the matches that have no result, in the order of the schedule, except the matches of players that have withdrawn."""
+    """Returns the matches that have no result, in the order of the schedule, without matches that are not played because a player has withdrawn."""
     known = {result.match.id for result in results}
     return [match for match in plan.matches if match.id not in known and not match.withdrawn]
 
 
 def rounded(number: float | None, places: int) -> float | None:
-    """Rounds a number for a file, because the last digits of the number may differ between computers."""
+    """Rounds a number for a file, because its last digits may differ between computers."""
     return None if number is None else round(number, places) + 0.0
 
 
 def fields(line: Line) -> dict[str, object]:
-    """Returns the values of a line, by the heads of a file's columns."""
+    """Returns the values of a line, by the column heads of a file."""
     values = {**vars(line), "goals": line.mean(), "points": line.points(), "rating": None, "half": None, "group": None}
     if line.rating:
         values |= {"rating": rounded(line.rating.rating, 1), "half": rounded(line.rating.half, 1), "group": line.rating.group}
@@ -96,7 +96,7 @@ def columns(rows: Sequence[list[str]]) -> Iterator[str]:
 
 
 def cells_of(table: Table, line: Line) -> dict[str, str]:
-    """Returns the cells of a line of the standings, by the heads of the columns that the table has."""
+    """Returns the cells of a line of the standings, by column head. Columns that the table does not have are left out."""
     cells = {
         "player": f"{line.player} (no move of its own)" if 0 < line.absent == line.matches else line.player,
         "matches": str(line.matches),
@@ -217,8 +217,8 @@ def joined(plans: Sequence[Plan]) -> Plan:
         return plans[0]
     first, competitions, rules = plans[0].competition, [plan.competition for plan in plans], {}
     names = [competition.name for competition in competitions]
-    if twice := [name for name in names if names.count(name) > 1]:
-        raise Refused(f"two of the directories have a competition named {twice[0]}; a joint table needs different names")
+    if repeated := [name for name in names if names.count(name) > 1]:
+        raise Refused(f"two of the directories have a competition named {repeated[0]}; a joint table needs different names")
     for plan in plans:
         for name, ground in plan.rules.items():
             if rules.setdefault(name, ground).sum != ground.sum:

@@ -1,4 +1,4 @@
-"""Reads the new lines of a file that grows."""
+"""Reads new lines from a growing file."""
 
 import os
 from collections.abc import Callable
@@ -7,7 +7,7 @@ from typing import BinaryIO, Generic, NamedTuple, TypeVar
 from ggp_tools.competition.files import opened_file
 from ggp_tools.match_log import LONGEST_LINE
 
-# So that a long log does not delay the others, one read takes at most this many bytes, unless a single line is longer.
+# One read takes about this many bytes at most, so that a long log does not delay the others.
 MOST_READ = 1 << 20
 # The first bytes show whether another file has replaced this one: in the log of a match, they include the time at which the match began.
 HEAD = 256
@@ -15,8 +15,8 @@ T = TypeVar("T")
 
 
 class Extent(NamedTuple):
-    """The size of a growing file. With a delay, also the inode number and the first bytes of the file, because another file may replace
-    it."""
+    """The size of a growing file. If the live pages have a delay, also the inode number and the first bytes of the file, because another file may
+    replace it in the meantime."""
 
     size: int
     number: int = 0
@@ -31,18 +31,17 @@ def extent_of(file: BinaryIO) -> Extent:
 
 class Tail(Generic[T]):
     """The parsed lines of a growing file. Each read continues where the last one ended, or at the beginning if the file was replaced or
-    truncated. If the file no longer exists, its lines are read from the file `later`."""
+    truncated. If the file no longer exists, reads its lines from the file `later`."""
 
     def __init__(self, path: str, parse: Callable[[bytes], T | None], later: str = "") -> None:
         self.path, self.parse, self.later = path, parse, later
         self.place, self.number, self.head = 0, None, b""
-        # Whether some lines of the extent are still unread; and whether only the beginning of a line has been read, because the line is too
-        # long.
+        # Whether lines of the extent are still unread; and whether the last read ended within a line, because the line is too long.
         self.is_behind = self.is_within = False
 
     def added(self, extent: Extent) -> tuple[list[T], bool]:
-        """Returns the new lines of this extent of the file, and whether it is a different file than before. If the file can't be read, or
-        does not have the inode number and the first bytes of the extent, there are no lines."""
+        """Returns the new lines in this extent of the file, and whether the file is a different one than before. If the file can't be read, or is not
+        the one that the extent describes, returns no lines."""
         if self.later and not os.path.exists(self.path):
             self.path, self.later, self.number = self.later, "", None
         try:

@@ -1,5 +1,5 @@
-"""Reads TOML with the line of each value. Python's parser does not report lines, so this module finds them in the text that the parser has
-accepted."""
+"""Reads TOML, and determines the line of each value. Python's parser does not report lines, so this module finds them in the text that the
+parser has accepted."""
 
 import itertools
 import re
@@ -22,13 +22,13 @@ KEY = re.compile(r"\s*([A-Za-z0-9_-]+)")
 
 # The time in which Python's parser reads a dotted key grows with the square of the number of dots, so more dots than this are refused.
 MOST_DOTS = 100
-# Each key, table and member of an array has one of these characters. Because each value takes memory, a file may have only this many of them. They
-# suffice for the longest schedule and the maximum number of players.
+# Each key, table and member of an array has one of these characters. Because each value takes memory, a file may have only this many of these
+# characters. The limit suffices for the longest schedule and the maximum number of players.
 SIGNS, MOST_SIGNS = frozenset("=,["), 150_000
 
 
 class TomlFault(Exception):
-    """The reason why a text is not TOML, with the line and, if a key begins this line, the key."""
+    """The reason why a text is not TOML, with the line of the error, and the key at the beginning of this line, if any."""
 
     def __init__(self, line: int, key: str, words: str) -> None:
         super().__init__(words)
@@ -36,7 +36,7 @@ class TomlFault(Exception):
 
 
 def read_toml(text: str) -> tuple[dict, dict[Path, int]]:
-    """Returns the values of a text. Also returns the lines of its tables, of the keys in them, and of the members of arrays."""
+    """Returns the values of a text, and the lines of its tables, keys and members of arrays."""
     if text.count(".") > MOST_DOTS or sum(map(text.count, SIGNS)) > MOST_SIGNS:
         refuse_too_many(text)
     try:
@@ -67,16 +67,16 @@ def refuse_too_many(text: str) -> None:
 
 
 def fault_of(text: str, why: str) -> TomlFault:
-    """Returns the error for a message of Python's parser, with the line that the message names."""
+    """Turns a message of Python's parser into an error with the line that the message names."""
     lines = text.split("\n")
-    found = PLACE.search(why)
-    line = min(int(found[1]), len(lines)) if found else len(lines)
+    place = PLACE.search(why)
+    line = min(int(place[1]), len(lines)) if place else len(lines)
     key = KEY.match(lines[line - 1])
     return TomlFault(line, key[1] if key else "", f"this is not TOML: {why}")
 
 
 def statements(text: str) -> Iterator[Statement]:
-    """Yields the tokens of each header and of each key with its value."""
+    """Yields the statements of a text. A statement is a header, or a key with its value."""
     statement, depth, line = [], 0, 1
     for token in TOKEN.finditer(f"{text}\n"):
         word = token[0]
@@ -91,7 +91,7 @@ def statements(text: str) -> Iterator[Statement]:
 
 
 def names_of(words: list[str]) -> Path:
-    """Returns the names in a dotted key. Python's parser splits the key."""
+    """Returns the names in a dotted key, which Python's parser splits."""
     value, names = tomllib.loads(f"{''.join(words)} = 0"), ()
     while isinstance(value, dict):
         ((name, value),) = value.items()

@@ -47,7 +47,7 @@ class Entry:
 
 
 def marked(entries: list[Entry]) -> list[Entry]:
-    """Returns the entries, and adds a remark to each one before which the clock was set back."""
+    """Returns the entries. Before each entry at which the clock had been set back, inserts a remark that says so."""
     remarked, before = [], {}
     for entry in entries:
         if entry.time and entry.time < before.get(entry.is_note, ""):
@@ -72,8 +72,8 @@ def merged(*parts: list[Entry]) -> list[Entry]:
 
 
 def in_order(notes: list[Entry], runs: list[list[Entry]], match_id: str) -> list[Entry]:
-    """Merges the notes of the journal and the runs of the log, which are about one role. A run comes between the notes about its beginning
-    and its end. Notes about the player are placed by their times. The first runs may be missing from the log."""
+    """Merges the journal's notes and the log's runs about one role. A run comes between the notes about its beginning and its end. Notes about the
+    player are placed by their times. The first runs may be missing from the log."""
     before, *begun = parts_at(notes, f"begin {match_id} ")
     if not begun:
         return [*notes, *sum(runs, [])]
@@ -86,7 +86,7 @@ def in_order(notes: list[Entry], runs: list[list[Entry]], match_id: str) -> list
 
 
 class Explanation:
-    """The explanation of one match."""
+    """Explains one match."""
 
     def __init__(self, plan: Plan, match: Match) -> None:
         self.plan, self.match, self.folder = plan, match, plan.folder
@@ -124,10 +124,10 @@ class Explanation:
         return [[self.entry_of(message, run is runs[-1]) for message in run] for run in runs]
 
     def entry_of(self, message: Message, counts: bool) -> Entry:
-        """Explains a message to a role and the role's answer. If the message is in the record, also says which move was played."""
+        """Explains a message to a role, and the answer. If `counts` is set and there is a record, also says which move was played."""
         head = f"turn {message.turn()}: {PLAY}" if message.kind == PLAY else str(message.kind)
         came = message_of(message.came())
-        text = f"{head} brought {came} after {message.ms} ms" if message.error else f"{head} was answered `{came}` after {message.ms} ms"
+        text = f"{head} failed with {came} after {message.ms} ms" if message.error else f"{head} was answered `{came}` after {message.ms} ms"
         mark = self.mark_of(message) if counts else None
         if self.record and counts and message.kind == PLAY:
             text += f"; {self.turn_text(message.role, message.round, message.answer or '')}"
@@ -138,8 +138,8 @@ class Explanation:
         return Entry(time, message.role, f"{text}. Message {message.number}: {message_of(message.message)}")
 
     def mark_of(self, message: Message) -> str | None:
-        """Returns the error that the record has for START or for the last message. Without an error, the text is empty. Without a record,
-        returns None."""
+        """Returns the error that the record has for START or for the last message, or an empty text if there is no error. Returns None for other
+        messages, or if there is no record."""
         if not self.record or message.kind == PLAY or message.kind is None:
             return None
         return self.record["startMarks" if message.kind == START else "endMarks"][message.role]
@@ -154,7 +154,7 @@ class Explanation:
         return Illegal(self.record["states"], self.roles, lambda: game_of(self.plan.rules[self.match.game].text))
 
     def illegal_text(self, role: int, turn: int, error: str, answer: str) -> str:
-        """Explains an answer that is not a legal move: why it is not an expression, or which moves were legal."""
+        """Explains why an answer is not an expression, or, if it is an illegal move, which moves were legal."""
         if error == "IL ?":
             why = no_expression(answer)
             return f": {why}" if why else ""
@@ -188,7 +188,7 @@ class Explanation:
         return [*retired, f"{goal}; {replaced} of {len(errors)} moves replaced", *forfeit]
 
     def lines(self, players: list[str]) -> Iterator[str]:
-        """Yields the lines of the explanation: everything that is known about what `players` did in the match."""
+        """Yields the lines of the explanation: everything that is known about these players in the match."""
         match = self.match
         who = ", ".join(f"{player} is {role}" for player, role in zip(match.players, self.roles))
         strikes, most = self.plan.competition.strikes, self.plan.competition.faults.replaced
@@ -206,7 +206,7 @@ class Explanation:
 
 
 def explanation(plan: Plan, match_id: str, player: str | None) -> Iterator[str]:
-    """Yields the events of a match, for one player or for all."""
+    """Yields the lines that explain a match, for one player or for all of its players."""
     match = next((planned for planned in plan.matches if planned.id == match_id), None)
     if match is None:
         raise Refused(f"{match_id} is not a match of {plan.folder.schedule}")
