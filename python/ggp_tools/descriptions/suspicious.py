@@ -116,7 +116,7 @@ class Index:
                 self.table.setdefault(place, []).append(atom)
 
     def alike(self, atom: Expression) -> Iterable[Expression]:
-        """Returns candidates that may equal `atom`: the candidates that agree with `atom` at the path that leaves the fewest candidates."""
+        """Returns the sentences that may equal `atom`, judging by one path: the path at which the fewest sentences agree with `atom`."""
         # If a sentence has a variable at the path or above it, any value may be there.
         groups = (
             [self.table.get((way[:length], None), ()) for length in range(len(way) + 1)] + [self.table.get((way, word), ())]
@@ -178,7 +178,7 @@ class Description:
                 must_be_literal(literal)
             must_be_atomic(part.atom, True)
         except Refused as why:
-            # A ground description may use these, but they do not have their meaning of GDL-II.
+            # A ground description may use these words, but they do not have their GDL-II meaning.
             if SECRET not in str(why):
                 self.is_well_formed = False
                 return
@@ -248,7 +248,7 @@ def is_too_long(move: Expression) -> bool:
 
 
 def by_name(relations: Iterable[Relation]) -> dict[str, list[int | None]]:
-    """Returns the numbers of arguments of relations by name."""
+    """Returns, for each name, the numbers of arguments of the relations with this name."""
     return {name: [count for _, count in found] for name, found in grouped(sorted(relations, key=str), itemgetter(0)).items()}
 
 

@@ -80,7 +80,7 @@ class Program:
         return name
 
     def table(self, key: tuple, is_timely: bool) -> int:
-        """Returns the number of a table of results. A timely table belongs to one position. All other tables are permanent."""
+        """Returns the number of a table of results. If `is_timely` is set, the results are valid for one position only, otherwise for all."""
         number = self.relations.tables.setdefault(key, len(self.relations.tables))
         if not is_timely:
             self.relations.fixed.setdefault(number, {})

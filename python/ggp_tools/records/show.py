@@ -68,7 +68,7 @@ ERRORS = {
 # Terms of a state that name the role whose turn it is.
 TURN = re.compile(r"\((?:control|turn|on-turn) ([^()]*)\)")
 
-# A state that is listed as text: the values that its page gets besides the terms of the state.
+# If a state is listed as text, the template gets these values besides the terms of the state.
 LISTED = {"boards": "", "before": None, "gone": [], "is_empty": False, "drawn": [], "more": 0}
 
 # The labels at each place of a board.
@@ -234,7 +234,7 @@ class Named:
 
     @functools.cached_property
     def boards(self) -> list[Board]:
-        """The boards whose places are known without a state, because moves name them. A board whose rows are letters is left out, because
+        """Returns the boards whose places are known without a state, because moves name them. A board whose rows are letters is left out, because
         (on a b) describes a pile of blocks."""
         found = boards_of_terms({group: {0: terms} for group, terms in self.ground.items() if terms}, Named((), self.is_hex))
         return [board for board in found if kind_of(board.up) != "letters" and any(places_of(move, board) for move in self.moves)]
@@ -466,7 +466,7 @@ def page_of(
         states = list(states_of_page(all_states, roles, frame.named))
     else:
         states = states_of_part(all_states, part, roles, frame.named)
-    # Of a record that is too long, only the first states are known.
+    # If the record is too long, only its first states are known.
     last = len(moves) if part is parts[-1] else part.stop - 1
     turns = []
     for turn in range(max(0, part.start - 1), last):
