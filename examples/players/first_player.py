@@ -34,7 +34,7 @@ class Match:
         self.state = [term for _, term in self.heads("init", set())]
 
     def heads(self, word, facts):
-        """Returns the heads that begin with a word and are true. The facts are the `true` and `does` literals that hold now."""
+        """Returns the true heads that begin with a word. `facts` are the `true` and `does` sentences that are true now."""
         self.facts, self.known = facts, {}
         return [head for head in self.bodies if head[0] == word and self.holds(head)]
 

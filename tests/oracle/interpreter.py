@@ -3,9 +3,9 @@ a query top-down, rule by rule, according to the definition of truth in the stan
 the program or with `python`.
 
 A query is an atomic sentence that may have variables. The answers are the true sentences without variables that match the query. Rules are
-safe, so each answer of a rule has a value for each variable. If a query comes up again while it is being answered, the relation of the
-query is recursive: from then on the whole relation is derived bottom-up from the facts. The same happens from the beginning if a query
-could come up again with larger terms."""
+safe, so each answer of a rule has a value for each variable. If a query comes up again while it is being answered, its relation is
+recursive, and from then on the interpreter derives the whole relation bottom-up from the facts. If a query could come up again with larger
+terms, the interpreter derives its relation bottom-up from the beginning."""
 
 import re
 

@@ -30,7 +30,7 @@ def program_of(about: str) -> str:
 
 
 def tell(name: str, faults: Iterable[str], well: str) -> int:
-    """Prints each error after the test's name, or `well` if there are no errors. Returns the exit status."""
+    """Prints each error with the test's name before it, or `well` if there are no errors. Returns the exit status."""
     found = [f"{name}: {fault}" for fault in faults]
     print(*found or [well], sep="\n")
     return int(bool(found))

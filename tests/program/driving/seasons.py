@@ -38,7 +38,7 @@ def start(program, words, plan, records, **more):
 
 
 def all_said(child):
-    """Returns what a program writes to its pipes until it ends. A program that does not end is killed."""
+    """Returns what a program writes to its pipes until it ends. Kills a program that does not end."""
     try:
         return child.communicate(timeout=PATIENCE)
     except subprocess.TimeoutExpired:
