@@ -77,17 +77,17 @@ class Player(BaseHTTPRequestHandler):
 
     def answer(self, receiver, kind, match_id="", *arguments):
         # Two roles of a match may have this address, under different names.
-        seat = match_id, receiver
+        key = match_id, receiver
         match kind:
             case "info":
                 return "available"
             case "start":
                 role, sentences, _start_clock, _play_clock = arguments
-                self.matches[seat] = Match(role, sentences)
+                self.matches[key] = Match(role, sentences)
                 return "ready"
-            case "play" if seat in self.matches:
-                return show(self.matches[seat].move(arguments[0]))
-        self.matches.pop(seat, None)
+            case "play" if key in self.matches:
+                return show(self.matches[key].move(arguments[0]))
+        self.matches.pop(key, None)
         return "done"
 
 

@@ -230,13 +230,13 @@ def way_to(head: Relation, last: Relation, asks: Mapping[Relation, Iterable[Rela
 
 def reached(asks: Mapping[Relation, Iterable[Relation]], relations: Iterable[Relation]) -> set[Relation]:
     """Returns all relations on which `relations` depend, directly or indirectly. `asks` has the direct dependencies."""
-    found, left = set(), list(relations)
+    result, left = set(), list(relations)
     while left:
         for asked in asks.get(left.pop(), ()):
-            if asked not in found:
-                found.add(asked)
+            if asked not in result:
+                result.add(asked)
                 left.append(asked)
-    return found
+    return result
 
 
 def components(graph: Mapping[Expression, Iterable[Expression]]) -> list[list[Expression]]:

@@ -164,7 +164,7 @@ def text_of_value(value: str | int | None) -> str:
         return "null"
     if isinstance(value, int):
         return str(value)
-    return '"%s"' % ESCAPED.sub(lambda found: f"\\{found[0]}" if found[0] in '"\\' else f"\\u{ord(found[0]):04x}", value)
+    return '"%s"' % ESCAPED.sub(lambda match: f"\\{match[0]}" if match[0] in '"\\' else f"\\u{ord(match[0]):04x}", value)
 
 
 def line_of(event: Event) -> bytes:

@@ -15,11 +15,11 @@ THIS_COMPUTER = "this computer"
 def client_of(address: str) -> str:
     """Returns the client that an address belongs to. With IPv6, one customer may have all addresses with the same first 48 bits. An IPv4 address may
     be in IPv6 notation. Raises ValueError if the text is not an address."""
-    found = ipaddress.ip_address(address.partition("%")[0])
-    found = getattr(found, "ipv4_mapped", None) or found
-    if found.is_loopback:
+    parsed = ipaddress.ip_address(address.partition("%")[0])
+    parsed = getattr(parsed, "ipv4_mapped", None) or parsed
+    if parsed.is_loopback:
         return THIS_COMPUTER
-    return str(found if found.version == 4 else ipaddress.ip_network((int(found), 48), strict=False))
+    return str(parsed if parsed.version == 4 else ipaddress.ip_network((int(parsed), 48), strict=False))
 
 
 class Connection(Protocol):
