@@ -69,8 +69,8 @@ class Desk:
             case ["submit", id_, role, round_, answer]:
                 return self.matches[id_].submit(int(role), int(round_), answer)
             case ["query", id_]:
-                found = self.matches[id_]
-                return f"status {found.phase()} round {found.round} turns {len(found.turns)} substitutions {found.substitutions}"
+                match = self.matches[id_]
+                return f"status {match.phase()} round {match.round} turns {len(match.turns)} substitutions {match.substitutions}"
         return "badline"
 
     def call(self, row: str) -> str:

@@ -90,7 +90,7 @@ struct Desk {
 }
 
 impl Desk {
-    /// Makes a call. Returns nothing if the row is not one.
+    /// Makes a call. Returns `None` if the row is not a call.
     fn reply(&mut self, row: &str) -> Option<String> {
         let mut words = row.split(' ');
         let (name, id) = (words.next()?, words.next()?);

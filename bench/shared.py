@@ -44,8 +44,8 @@ def spent() -> float:
 
 
 def cost(words: list[str], file: str) -> tuple[float, float]:
-    """Returns the processor milliseconds and the maximum MB of a command on a file. GNU time starts the command, which adds about a
-    millisecond. If Python started the command, its memory would include that of Python."""
+    """Returns the processor milliseconds and the maximum MB of a command that reads a file. GNU time starts the command, which adds about a
+    millisecond. If Python started it, the measured memory would include that of Python."""
     with open(file, "rb") as given, tempfile.NamedTemporaryFile("r") as most:
         before = spent()
         subprocess.run(["/usr/bin/time", "-f", "%M", "-o", most.name, *words], stdin=given, stdout=subprocess.DEVNULL, stderr=subprocess.DEVNULL)
@@ -53,7 +53,7 @@ def cost(words: list[str], file: str) -> tuple[float, float]:
 
 
 def instructions(words: list[str], file: str) -> float:
-    """Returns the millions of instructions that valgrind counts for a command on a file."""
+    """Returns the millions of instructions that valgrind counts for a command that reads a file."""
     with open(file, "rb") as given:
         counting = ["valgrind", "--tool=callgrind", "--callgrind-out-file=/dev/null", *words]
         said = subprocess.run(counting, stdin=given, stdout=subprocess.DEVNULL, stderr=subprocess.PIPE, text=True).stderr
@@ -62,7 +62,7 @@ def instructions(words: list[str], file: str) -> float:
 
 @contextlib.contextmanager
 def load(is_busy: bool) -> Iterator[None]:
-    """If `is_busy`, two processes for each processor use processor time while the block runs."""
+    """If `is_busy` is set, keeps each processor busy with two processes while the block runs."""
     count = 2 * os.cpu_count() if is_busy else 0
     workers = [subprocess.Popen([sys.executable, "-c", "while True: pass"]) for _ in range(count)]
     try:

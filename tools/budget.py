@@ -1,5 +1,5 @@
-"""Estimates the proof cost of each crate, in megabytes that a check generates, from the functions and their steps in the library that `rt ci`
-builds. The cost is the same on every machine."""
+"""Estimates the proof cost of each crate: the megabytes that a check of it generates. The estimate counts the functions and their steps in the
+library that `rt ci` builds, so it is the same on every machine."""
 import json
 import os
 from collections.abc import Iterator

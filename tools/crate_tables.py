@@ -74,9 +74,9 @@ def layers(known: dict[str, list[str]]) -> list[list[str]]:
     return [[name for name in own if height(name) == level] for level in range(max(map(height, own)), -1, -1)]
 
 
-def with_layers(text: str, found: list[list[str]]) -> str:
+def with_layers(text: str, new: list[list[str]]) -> str:
     """Replaces the layers in a text."""
-    body = "".join(f"    {' '.join(names)}\n" for names in found)
+    body = "".join(f"    {' '.join(names)}\n" for names in new)
     return re.sub(re.escape(LAYERS) + LAYER_ROWS, lambda _: f"{LAYERS}\n\n{body}", text)
 
 

@@ -79,7 +79,7 @@ def definitions(crate):
 
 
 def spread(name):
-    """Expands a short form: `Journal::{call, entries}` stands for two names."""
+    """Expands a short form, such as `Journal::{call, entries}`, to its names."""
     short = re.fullmatch(r"(.*::)\{(.*)\}", name)
     return [short[1] + part.strip() for part in short[2].split(",")] if short else [name]
 
@@ -91,8 +91,8 @@ def contract_of(crate, name):
 
 
 def says(crate, contracts, name):
-    """Returns whether one of the contracts has a clause with this name. A name with a capital letter is that of a definition. The
-    definition must occur in the contracts or the definitions of the crate."""
+    """Returns whether one of the contracts has a clause with this name. A name that begins with a capital letter is a
+    definition instead, which must occur in the contracts or the definitions of the crate."""
     if name[0].isupper():
         return any(re.search(rf"\b{name}\b", text) for text in [*contracts, definitions(crate)])
     return any(f"ensures {name} {{" in contract for contract in contracts)
@@ -113,8 +113,8 @@ def without_targets(cell):
 
 
 def indexed(part):
-    """Returns the crate that a part of a cell of the index names, and this part in the form that it has in the crate's own table. Returns
-    None for other parts."""
+    """Returns the crate that a part of a cell of the index names, and the part as the crate's own table writes it. If the part names no crate,
+    returns None."""
     match = INDEXED.fullmatch(part)
     return (match[2], f"`{match[1]}`{match[3]}") if match else None
 

@@ -15,7 +15,7 @@ ENTRY = re.compile(r" {2,}(\S(?:.*?\S)?)(?: {2,}(\S.*))?")
 HEAD = re.compile(r"[A-Za-z][a-z ]*:")
 OPTION = re.compile(r"--[a-z][a-z-]*")
 STATUS = re.compile(r"\bstatus 0: ")
-# Entries of the list of subcommands that are not subcommands.
+# Entries in the list of subcommands that are not subcommands.
 NO_COMMANDS = ("help", "COMMAND")
 
 

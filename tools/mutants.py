@@ -19,7 +19,7 @@ OTHER_CALLS = {"min": "max", "max": "min", "any": "all", "all": "any", "set": "l
 SAME_KIND = ("strip", "lstrip", "rstrip", "lower", "upper", "copy", "removeprefix", "removesuffix")
 # Swapping the arguments of these functions changes nothing, or causes an error in every run.
 SHOWN_AT_ONCE = ("min", "max", "range", "print", "isinstance", "map", "filter", "decode", "encode", "sub", "get", "getattr", "open")
-# The fields of a node that hold types and decorators, which are not mutated.
+# The fields of a node that contain types and decorators, which are not mutated.
 IGNORED = ("annotation", "returns", "decorator_list")
 FUNCTIONS = (ast.FunctionDef, ast.AsyncFunctionDef)
 

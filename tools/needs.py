@@ -1,6 +1,5 @@
-"""Checks that Python is recent enough, and that the gate has passed with the installed version of the Rattle toolchain. If Python is too old, or the gate
-has not passed with this toolchain, reports this in one line before the tool does anything else. Any Python 3 can run this file, so that an
-old Python can report that it is too old."""
+"""Checks that Python is recent enough, and that the gate has passed with the installed version of the Rattle toolchain. Otherwise, each tool reports the
+problem in one line before it does anything else. Any Python 3 can run this file, so an old Python can report that it is too old."""
 import importlib.machinery
 import importlib.util
 import os

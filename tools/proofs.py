@@ -1,5 +1,5 @@
-"""Runs `rt ci` and parses its output: which crates are proved, the estimated time left, and whether the number of functions that may wait
-is the number in crates.txt."""
+"""Runs `rt ci` and parses its output. Reports which crates are proved, the estimated time left, and whether the number of functions that may
+wait agrees with crates.txt."""
 import collections
 import os
 import re

@@ -34,13 +34,13 @@ def message(owed: Owe, match_id: str, role: object, rules: list) -> tuple:
 def play_match(desk: Desk, match_id: str, rules: list, players: list[Player]) -> None:
     """Asks each player for the answers that the desk says are due, until the match is over."""
     roles = Game(rules).roles
-    desk.open(match_id, [f"player{seat}" for seat in range(len(roles))], start=START, play=PLAY)
+    desk.open(match_id, [f"player{role}" for role in range(len(roles))], start=START, play=PLAY)
     dues = [Hold(0)]
     while any(due != Over() for due in dues):
-        dues = [desk.next(match_id, seat) for seat in range(len(roles))]
-        for seat, due in enumerate(dues):
+        dues = [desk.next(match_id, role) for role in range(len(roles))]
+        for role, due in enumerate(dues):
             if isinstance(due, Owe):
-                desk.submit(match_id, seat, due.round, players[seat].answer(message(due, match_id, roles[seat], rules)))
+                desk.submit(match_id, role, due.round, players[role].answer(message(due, match_id, roles[role], rules)))
 
 
 def main() -> None:

@@ -50,8 +50,8 @@ public class Player {
     }
 
     public static void main(String[] arguments) throws Exception {
-        // Half a message blocks the player for at most this many seconds. A message that waits for an earlier answer is closed after this time
-        // too, so make it longer than both clocks of the match.
+        // Half a message blocks the player for at most this many seconds. The connection of a message that waits for an earlier
+        // answer is closed after this time too, so make it longer than both clocks of the match.
         System.setProperty("sun.net.httpserver.maxReqTime", "20");
         HttpServer server = HttpServer.create(new InetSocketAddress(Integer.parseInt(arguments[0])), 0);
         // One thread, so that messages are processed in their order. Its stack of 256 MiB is for rules that depend on one another in

@@ -34,7 +34,7 @@ class Match:
         self.state = [term for _, term in self.heads("init", set())]
 
     def heads(self, word, facts):
-        """Returns the heads that begin with a word and are true. The facts are the `true` and `does` literals that hold now."""
+        """Returns the true heads that begin with a word. `facts` are the `true` and `does` sentences that are true now."""
         self.facts, self.known = facts, {}
         return [head for head in self.bodies if head[0] == word and self.holds(head)]
 
@@ -77,17 +77,17 @@ class Player(BaseHTTPRequestHandler):
 
     def answer(self, receiver, kind, match_id="", *arguments):
         # Two roles of a match may have this address, under different names.
-        seat = match_id, receiver
+        key = match_id, receiver
         match kind:
             case "info":
                 return "available"
             case "start":
                 role, sentences, _start_clock, _play_clock = arguments
-                self.matches[seat] = Match(role, sentences)
+                self.matches[key] = Match(role, sentences)
                 return "ready"
-            case "play" if seat in self.matches:
-                return show(self.matches[seat].move(arguments[0]))
-        self.matches.pop(seat, None)
+            case "play" if key in self.matches:
+                return show(self.matches[key].move(arguments[0]))
+        self.matches.pop(key, None)
         return "done"
 
 

@@ -26,7 +26,7 @@ from http.server import BaseHTTPRequestHandler, ThreadingHTTPServer
 MOST_BYTES, MOST_LISTS = 33_554_432, 66
 # The longest answer that is a move.
 MOST_ANSWER = 4_096
-# If a pipe is ready for writing, it takes at least this many bytes at once.
+# A pipe that is ready for writing accepts at least this many bytes at once.
 MOST_SAID = 4_000
 # If a referee is this many seconds late with its next message, the player counts as available again.
 PATIENCE = 10
@@ -169,7 +169,7 @@ class Player:
                 moves = [show(move) for move in seat.game.legal(seat.state, seat.role)]
                 return self.choose([move for move in moves if len(move) <= MOST_ANSWER] or moves)
             case ("stop", match_id, _) | ("abort", match_id):
-                # The player may not know this match.
+                # There may be no such match.
                 if (seat := self.seats.get(receiver)) and seat.match_id == match_id:
                     del self.seats[receiver]
                 return "done"
@@ -177,7 +177,7 @@ class Player:
 
 
 def is_waiting(stream):
-    """Returns whether a stream is not ready for writing. An example is a pipe that nobody reads."""
+    """Returns whether a stream is not ready for writing, for example because it is a full pipe that nobody reads."""
     try:
         return not select.select([], [stream], [], 0)[1]
     except (OSError, ValueError):

@@ -4,7 +4,7 @@ Live pages also need aiohttp, and descriptions with variables need the grounder 
 import os
 import sys
 
-# The version of the referee that is delivered with this package.
+# The version of the referee that this package is delivered with.
 VERSION = "0.3.0"
 
 if sys.version_info < (3, 11):

@@ -10,11 +10,11 @@ from ggp_tools.kif import KifFault, Refused, expressions, spelled, starts
 from ggp_tools.match_log import SHOWN
 from ggp_tools.printable import MORE
 
-# The maximum number of bytes of a list of legal moves.
+# The maximum length of a list of legal moves in bytes.
 MOST_BYTES = 400
 # The maximum number of games in the cache.
 MOST_GAMES = 4
-# The interpreter is slow. So a page lists the legal moves for at most MOST_TOLD illegal moves, and only if the rules have at most
+# Because the interpreter is slow, a page lists the legal moves for at most MOST_TOLD illegal moves, and only if the rules have at most
 # MOST_RULES bytes.
 MOST_TOLD, MOST_RULES = 20, 1 << 20
 
@@ -89,8 +89,8 @@ class Illegal:
 
 
 class Whys:
-    """The texts that a page adds to replaced moves: the legal moves, or why the answer is not an expression. `answers` has the answers that
-    are not expressions, by role and turn. Without a game, the texts do not mention legal moves."""
+    """The texts that a page adds to replaced moves: the legal moves, or why the answer is not an expression. `answers` has each answer
+    that is not an expression, by its role and turn. Without a game, the texts do not mention legal moves."""
 
     def __init__(self, record: dict, game: Callable[[], Game] | None, answers: dict[tuple[int, int], str]) -> None:
         self.illegal, self.left = game and Illegal(record["states"], record["roles"], game), MOST_TOLD

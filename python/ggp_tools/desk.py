@@ -14,7 +14,7 @@ from typing import Self
 from ggp_tools.referee import PROGRAM, find_program
 
 MOST_NUMBER = 1_000_000_000
-# The characters of one word of a call, and of the last argument of `submit`, which may contain spaces.
+# The characters allowed in one word of a call, and in the last argument of `submit`, which may contain spaces.
 WORD, TEXT = re.compile(r"[^ \r\n]+"), re.compile(r"[^\r\n]*")
 
 
@@ -49,7 +49,7 @@ class Status:
 
 
 class Refused(Exception):
-    """The desk has refused a call and changed nothing. `reason` is a word such as `nomatch`; if it is `stale`, `round` has the current
+    """The desk has refused a call and changed nothing. `reason` is a word such as `nomatch`; if it is `stale`, `round` is the current
     round."""
 
     def __init__(self, call: str, reason: str, round_: int | None) -> None:
@@ -58,11 +58,11 @@ class Refused(Exception):
 
 
 class DeskEnded(Exception):
-    """The desk has ended without a reply, or with an error. The program of the desk has written the reason to standard error."""
+    """The desk ended without a reply, or with an error. Its program printed the reason on standard error."""
 
 
 def word(value: str | int) -> str:
-    """Returns the value as one word of a call. Raises an exception if it cannot be one word."""
+    """Formats a value as one word of a call. Raises an exception if that is impossible."""
     if isinstance(value, int) and not 0 <= value <= MOST_NUMBER:
         raise ValueError(f"expected a number from 0 to {MOST_NUMBER}, found {value}")
     if not WORD.fullmatch(str(value)):
@@ -110,7 +110,7 @@ class Connection:
 
 
 class Desk:
-    """A desk of one game, in a program that begins and ends with `with`. `options` are those of the command `desk`, for example
+    """A desk for one game. `with` starts the program of the desk, and ends it. `options` are those of the command `desk`, for example
     `--countdown=3`. At the end of `with`, `records` has the record of each match, in the order in which the matches were opened.
     `Desk.connect` returns a desk that many clients share.
 
@@ -144,8 +144,8 @@ class Desk:
         await asyncio.to_thread(self.__exit__, *why)
 
     def reply(self, call: str) -> str:
-        """Makes the call in one row of a script, and returns the row with the reply. If an exception interrupts this method, the desk ends,
-        or the connection to it is closed."""
+        """Sends a call, which is one row of a script, and returns the row with the reply. If an exception interrupts this method, the method
+        ends the desk, or closes the connection to it."""
         if not TEXT.fullmatch(call):
             raise ValueError(f"expected a call without line breaks, found {call!r}")
         with self.lock:
@@ -172,8 +172,8 @@ class Desk:
         return self.reply(" ".join(map(word, words)))
 
     def open(self, id_: str, players: Sequence[str], *, game: int = 0, start: int = 10, play: int = 10, strikes: int = 0) -> None:
-        """Opens a match of these players, one for each role. The clocks, in seconds, are only stored in the record: the caller measures the
-        time."""
+        """Opens a match of these players, one for each role. The desk only stores the clocks, in seconds, in the record: the caller measures
+        the time."""
         self.make("strict", id_, game, start, play, strikes, *players)
 
     def next(self, id_: str, role: int) -> Owe | Hold | Over:

@@ -110,9 +110,9 @@ def must_be_literal(literal: Expression) -> None:
 
 
 def each_of(ways: list[list[Body]]) -> list[Body]:
-    """Returns the ways to satisfy all conditions in `ways`. A condition is given as the list of the ways to satisfy this condition."""
+    """Returns the ways to satisfy several conditions together. `ways` has, for each condition, the list of the ways to satisfy it."""
     if math.prod(map(len, ways)) > MOST_WAYS:
-        raise Refused(f"its `or`s can hold in more than {MOST_WAYS:,} ways", advice="move some of them into a relation with its own rules")
+        raise Refused(f"its `or`s can be satisfied in more than {MOST_WAYS:,} ways", advice="move some of them into a relation with its own rules")
     return [tuple(itertools.chain(*way)) for way in itertools.product(*ways)]
 
 
@@ -130,7 +130,7 @@ def ways_of(literal: Expression, positive: bool = True) -> list[Body]:
 
 
 def bound_by(body: Body) -> set[str]:
-    """Returns the variables of a body that occur in sentences without a negation."""
+    """Returns the variables of a body that occur in sentences that are not negated."""
     return {name for literal in body if literal.positive and not literal.same for name in variables(literal.atom)}
 
 
@@ -140,7 +140,7 @@ def must_be_safe(rule: Rule) -> None:
     for name in variables(rule.atoms()):
         if name not in bound:
             advice = f"add a condition with {quoted(name)} that is not negated"
-            raise Refused(f"{quoted(name)} is unsafe: it occurs in no sentence of the body except negated ones", advice=advice)
+            raise Refused(f"{quoted(name)} is unsafe: no positive sentence of the body contains it", advice=advice)
 
 
 def parted(sentence: Expression) -> tuple[Expression, Expression]:
@@ -155,8 +155,8 @@ def parted(sentence: Expression) -> tuple[Expression, Expression]:
 
 
 def rules_of(number: int, sentence: Expression, names: Iterator[str]) -> list[Rule]:
-    """Returns the rules of one sentence. If there are too many ways to satisfy its `or`s, each `or` for which this is possible becomes a
-    relation with one of these names."""
+    """Returns the rules of one sentence. If there are too many ways to satisfy its `or`s, each `or` that can be moved into an auxiliary
+    relation is moved there. `names` has the names of these relations."""
     head, body = parted(sentence)
     ways, rules = [ways_of(literal) for literal in body], []
     if math.prod(map(len, ways)) > FEW_WAYS:
@@ -230,13 +230,13 @@ def way_to(head: Relation, last: Relation, asks: Mapping[Relation, Iterable[Rela
 
 def reached(asks: Mapping[Relation, Iterable[Relation]], relations: Iterable[Relation]) -> set[Relation]:
     """Returns all relations on which `relations` depend, directly or indirectly. `asks` has the direct dependencies."""
-    found, left = set(), list(relations)
+    result, left = set(), list(relations)
     while left:
         for asked in asks.get(left.pop(), ()):
-            if asked not in found:
-                found.add(asked)
+            if asked not in result:
+                result.add(asked)
                 left.append(asked)
-    return found
+    return result
 
 
 def components(graph: Mapping[Expression, Iterable[Expression]]) -> list[list[Expression]]:
@@ -279,7 +279,7 @@ class Relations:
                     if not literal.positive:
                         self.denies.setdefault(head, set()).add(asked)
         groups = components(self.asks)
-        # All relations that depend on each other have the same number.
+        # Relations that depend on each other have the same number.
         self.group = {relation: number for number, group in enumerate(groups) for relation in group}
         self.circular = {relation for group in groups for relation in group if len(group) > 1 or relation in self.asks[relation]}
 

@@ -55,7 +55,7 @@ def advice_for_bytes(text: str) -> str:
 
 def tokens(text: str, most_levels: float = math.inf, takes_bytes: bool = False) -> Iterator[tuple[str, int, int]]:
     """Yields each parenthesis and each atom of a text, with its index and the number of lists that contain it. Refuses a text that is not KIF, and lists
-    that are nested more than `most_levels` deep. With `takes_bytes` any bytes are allowed, for messages."""
+    that are nested more than `most_levels` deep. With `takes_bytes`, accepts any bytes, because a referee may send them."""
     text = blanked(text)
     if not takes_bytes and (bad := NO_CHARACTER.search(text)):
         raise KifFault(f"a byte that is not a character of KIF: {bad[0]!r}", bad.start(), advice_for_bytes(text))

@@ -1,5 +1,5 @@
 """Reads and writes the JSON log of matches, even while a log grows. docs/COMMANDS.md describes the format. docs/COMPETITION.md describes
-the events that `play` adds. Each character of a text stands for one byte."""
+the events that `play` adds. Each character of a text represents one byte."""
 
 import dataclasses
 import io
@@ -88,7 +88,7 @@ class Open(Event):
 
 @dataclass(frozen=True, slots=True)
 class End(Event):
-    """The first role of a match has answered STOP or ABORT, or the time of this message is over."""
+    """The first role of a match has answered STOP or ABORT, or the time for its answer is over."""
 
     match: str
     time: int | None
@@ -115,7 +115,7 @@ class Other(Event):
 
 
 NAMES = {Message: "message", Open: "open", End: "end", Host: "host"}
-# For the name of each event, its class, and the types of the values of its keys.
+# The class of each event, and the types of the values of its keys, by the name of the event.
 TYPES = {name: (kind, {field.name: get_args(field.type) or (field.type,) for field in dataclasses.fields(kind)}) for kind, name in NAMES.items()}
 TYPES_OF_OTHER = str, int, type(None)
 
@@ -164,7 +164,7 @@ def text_of_value(value: str | int | None) -> str:
         return "null"
     if isinstance(value, int):
         return str(value)
-    return '"%s"' % ESCAPED.sub(lambda found: f"\\{found[0]}" if found[0] in '"\\' else f"\\u{ord(found[0]):04x}", value)
+    return '"%s"' % ESCAPED.sub(lambda match: f"\\{match[0]}" if match[0] in '"\\' else f"\\u{ord(match[0]):04x}", value)
 
 
 def line_of(event: Event) -> bytes:
@@ -236,7 +236,7 @@ def shown(text: str) -> str:
 
 
 def text_of(event: Event) -> str:
-    """Returns an event as one line of text, of bounded length, for a terminal."""
+    """Formats an event as one line of limited length for a terminal."""
     if isinstance(event, Message):
         head = f"{event.match} role {event.role} {event.player} message {event.number}"
         return f"{head} {shown(event.message)}: {shown(event.came())}, {event.ms} ms"

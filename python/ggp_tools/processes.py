@@ -20,8 +20,9 @@ APART: contextvars.ContextVar[dict[str, str] | None] = contextvars.ContextVar("A
 
 @contextlib.contextmanager
 def apart(mark: str) -> Iterator[None]:
-    """While the block runs, programs get this mark, and Ctrl-C at the terminal does not reach them, because this process finishes its work first. They end
-    with this process, even if it is killed. Programs that an earlier process with this mark has left are ended first."""
+    """While the block runs, the programs that this process starts get this mark. Ctrl-C at the terminal does not reach them, because this process
+    finishes its work first. They end when this process ends, even if it is killed. Before the block runs, ends the programs that an earlier process
+    with this mark left running."""
     guard.end_marked(mark)
     words = [sys.executable, "-I", str(pathlib.Path(guard.__file__).absolute()), mark]
     with subprocess.Popen(words, stdin=subprocess.PIPE, stdout=subprocess.DEVNULL, stderr=subprocess.DEVNULL, start_new_session=True):

@@ -34,7 +34,7 @@ MOST_OF_SCRIPT, MOST_OF_MOVE = 1 << 20, 4_096
 
 
 class NoReferee(Exception):
-    """The referee does not exist, or the program found is not the referee."""
+    """There is no referee, or the program is not the referee."""
 
 
 class BadRules(Exception):
@@ -46,8 +46,8 @@ class Unchecked(Exception):
 
 
 def find_program(given: str | None) -> str:
-    """Returns the path of the referee: the given one, or else the first one found next to this program, in bin/ of the repository, or on
-    the PATH of the shell."""
+    """Returns the path of the referee: the given one, or else the first one that exists next to this program, in bin/ of the repository, or
+    on the PATH of the shell."""
     if given:
         if not shutil.which(given):
             raise NoReferee(f"{given} is not an executable program")
@@ -73,15 +73,15 @@ def last_line(said: subprocess.CompletedProcess) -> str:
 
 
 def records_replayed(output: bytes) -> list[bytes]:
-    """Returns the records that `replay` printed for each call log. Before the records of a call log comes its verdict, which includes their
-    number."""
+    """Returns the records that `replay` printed for each call log. `replay` prints the verdict on a call log first; it includes the number of
+    the records that follow."""
     lines = iter(output.splitlines(True))
     verdicts = (json.loads(line) for line in lines)
     return [b"".join(itertools.islice(lines, verdict["records"])) for verdict in verdicts if verdict["verdict"] == "replayed"]
 
 
 def unchecked(said: subprocess.CompletedProcess, name: object) -> Unchecked:
-    """Returns the error of a run that gave no verdict. `name` is the name of the rules in the message."""
+    """Returns the error of a run that gave no verdict. The message calls the rules `name`."""
     words = last_line(said).removeprefix("ggp_manager: ") or "it printed nothing"
     return Unchecked(f"`{PROGRAM} {said.args[1]}` gave no verdict for {name}: {words}; {ended_words(said.returncode)}")
 
@@ -185,7 +185,7 @@ class Referee:
 
     def replays(self, rules_path: pathlib.Path | str, accounts: Sequence[bytes], records: Sequence[bytes]) -> list[bool]:
         """Returns for each call log whether its calls reproduce its record. `replay` stops at the first call log that does not, so this
-        method runs `replay` again for the remaining ones. The brace before each call log marks the end of the previous one."""
+        method runs `replay` again for the remaining ones. The line `{` before each call log ends the previous one."""
         results = []
         while len(results) < len(accounts):
             done = len(results)

@@ -55,9 +55,9 @@ class Journal:
 
 
 class Reporter:
-    """Writes lines to standard output. If standard error is a terminal, also rewrites one line of progress there. The first error of
-    standard output is stored in `fault` and not raised, because open matches must continue. Errors of the terminal are ignored, because the
-    line of progress only repeats information that is reported elsewhere."""
+    """Writes lines to standard output. If standard error is a terminal, also rewrites one line of progress there. Stores the first
+    error of standard output in `fault` and does not raise it, because open matches must continue. Ignores errors of the terminal, because
+    the line of progress only repeats information that is reported elsewhere."""
 
     def __init__(self, journal: Journal | None = None) -> None:
         self.fault, self.journal = None, journal

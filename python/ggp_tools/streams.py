@@ -102,13 +102,13 @@ def report(text: str) -> None:
 
 
 def error_words(why: OSError) -> str:
-    """Returns the name of an error's file, and the message of the error."""
+    """Returns the message of an error, after the name of the file if there is one."""
     return f"{why.filename}: {why.strerror}" if why.filename else str(why.strerror or why)
 
 
 def status_of(command: str, perform: Callable[[], int], failed: int, known: tuple[type[Exception], ...] = ()) -> int:
-    """Runs a command and returns its exit status. The status is `failed` if a file has an error, memory runs out, or one of the known errors is
-    raised."""
+    """Runs a command and returns its exit status. The status is `failed` if an operating-system error occurs, memory runs out, or one of the
+    known errors is raised."""
     try:
         return perform()
     except Ended as why:

@@ -15,16 +15,16 @@ THIS_COMPUTER = "this computer"
 def client_of(address: str) -> str:
     """Returns the client that an address belongs to. With IPv6, one customer may have all addresses with the same first 48 bits. An IPv4 address may
     be in IPv6 notation. Raises ValueError if the text is not an address."""
-    found = ipaddress.ip_address(address.partition("%")[0])
-    found = getattr(found, "ipv4_mapped", None) or found
-    if found.is_loopback:
+    parsed = ipaddress.ip_address(address.partition("%")[0])
+    parsed = getattr(parsed, "ipv4_mapped", None) or parsed
+    if parsed.is_loopback:
         return THIS_COMPUTER
-    return str(found if found.version == 4 else ipaddress.ip_network((int(found), 48), strict=False))
+    return str(parsed if parsed.version == 4 else ipaddress.ip_network((int(parsed), 48), strict=False))
 
 
 class Connection(Protocol):
-    """A connection of a client. It is idle until a whole request has arrived. `end` closes the connection, and calls `go` of its
-    visitors."""
+    """A connection of a client. It is idle until a whole request has arrived. `end` closes the connection, and calls
+    `Visitors.go`."""
 
     client: str
     is_idle: bool
@@ -33,8 +33,8 @@ class Connection(Protocol):
 
 
 def oldest_of_most(connections: Collection[Connection], size_of: Callable[[Connection], int] = lambda connection: 1) -> Connection | None:
-    """Returns the oldest connection of the client with the most connections, or the most by `size_of`. If there are no connections, returns
-    None."""
+    """Returns the oldest connection of the client whose connections have the largest total size; by default, each has the size 1. If there
+    are no connections, returns None."""
     counts: Counter[str] = Counter()
     for connection in connections:
         counts[connection.client] += size_of(connection)
@@ -42,15 +42,16 @@ def oldest_of_most(connections: Collection[Connection], size_of: Callable[[Conne
 
 
 def one_for(client: str, connections: Collection[Connection]) -> Connection | None:
-    """Returns the connection to close for a new one of a client: the one from `oldest_of_most`, unless its client has at most one connection more
-    than this client."""
+    """Returns the connection to close when a client opens a new one: the one that `oldest_of_most` returns, unless its client has at most one
+    connection more than this client."""
     counts, gone = Counter(connection.client for connection in connections), oldest_of_most(connections)
     return gone if gone and counts[client] + 1 < counts[gone.client] else None
 
 
 class Visitors:
-    """The connections, at most `most` at once. One client has at most an eighth of them, except this computer, which may be a proxy. Unless
-    `spares_busy` is set, a connection whose request has arrived may also be closed for another. Threads may share this object."""
+    """The open connections, of which there are at most `most`. One client may have an eighth of them, but this computer may have all, because
+    it may run a proxy. Unless `spares_busy` is set, a connection whose request has arrived may also be closed in favour of another. Threads
+    may share this object."""
 
     def __init__(self, most: int, spares_busy: bool = True) -> None:
         self.most, self.spares_busy, self.lock = most, spares_busy, threading.RLock()
@@ -65,8 +66,9 @@ class Visitors:
         return self.most if client == THIS_COMPUTER else max(3, self.most // 8)
 
     def has_room_for(self, client: str) -> bool:
-        """Returns whether one more connection of a client is served. If necessary, closes the oldest idle connection: this client's if the client has
-        used up its share, else that of the client with the most idle connections. If there is none, may close a busy connection."""
+        """Returns whether one more connection of a client can be accepted. If necessary, closes an idle connection to make this possible: the oldest
+        one of this client if the client has used up its share, otherwise the oldest one of the client with the most idle connections. If no
+        connection is idle, may close a busy one."""
         with self.lock:
             is_own = self.counts[client] >= self.most_of(client)
             if not is_own and len(self.connections) < self.most:
@@ -94,8 +96,8 @@ class Visitors:
 
     @contextlib.contextmanager
     def viewing(self, connection: Connection) -> Iterator[bool]:
-        """Yields whether a connection may stay open to get changes. The connection must end when it is no longer one of the viewers, because another
-        one replaced it. The last eighth of all connections, and of those of a client, is for loading pages, but at least one connection."""
+        """Yields whether a connection may stay open to get changes. When another connection has replaced it among the viewers, it must end. An
+        eighth of all connections, and of those of a client, but at least one, is reserved for loading pages."""
         client, (most, own) = connection.client, (many - max(1, many // 8) for many in (self.most, self.most_of(connection.client)))
         is_served = sum(viewer.client == client for viewer in self.viewers) < own
         if is_served and len(self.viewers) >= most:

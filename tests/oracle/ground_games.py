@@ -1,12 +1,11 @@
 #!/usr/bin/env python3
 """Writes NAME.out, the expected output of a desk for NAME.kif and NAME.script: the replies, and the match's record.
 
-ground_games.py NAME .. writes them in the current directory ground_games.py --check exits with status 1 if a file of examples/games differs
-from the expected output
+ground_games.py NAME ..   writes NAME.out in the current directory
+ground_games.py --check   exits with status 1 if a file of examples/games differs from the expected output
 
-This script is an oracle: it shares no code with the program or with `python`. The oracle evaluates rules top-down, by recursion; the
-program evaluates each rule once, in the order of ranks. The oracle accepts only scripts of one match, without rows that the desk refuses,
-and without an abort."""
+This script is an oracle: it shares no code with the program or with `python`. It evaluates rules top-down, by recursion, while the
+program evaluates each rule once, in the order of ranks. The scripts must have only one match, no abort, and no row that the desk refuses."""
 
 import argparse
 import json

@@ -3,9 +3,9 @@ a query top-down, rule by rule, according to the definition of truth in the stan
 the program or with `python`.
 
 A query is an atomic sentence that may have variables. The answers are the true sentences without variables that match the query. Rules are
-safe, so each answer of a rule has a value for each variable. If a query comes up again while it is being answered, the relation of the
-query is recursive: from then on the whole relation is derived bottom-up from the facts. The same happens from the beginning if a query
-could come up again with larger terms."""
+safe, so each answer of a rule has a value for each variable. If a query comes up again while it is being answered, its relation is
+recursive, and from then on the interpreter derives the whole relation bottom-up from the facts. If a query could come up again with larger
+terms, the interpreter derives its relation bottom-up from the beginning."""
 
 import re
 
@@ -145,9 +145,9 @@ class Facts:
 
     def at(self, name, path):
         if (name, path) not in self.by_place:
-            found = self.by_place[name, path] = {}
+            index = self.by_place[name, path] = {}
             for fact in self.by_name.get(name, ()):
-                found.setdefault(leaf_at(fact, path), []).append(fact)
+                index.setdefault(leaf_at(fact, path), []).append(fact)
         return self.by_place[name, path]
 
 
@@ -293,22 +293,22 @@ class Game:
 
     def timely(self, groups):
         """Returns the relations that depend on the state or the moves."""
-        found = set(GIVEN)
+        result = set(GIVEN)
         for group in groups:
-            if any(not found.isdisjoint(self.asks[name]) for name in group):
-                found |= group
-        return found
+            if any(not result.isdisjoint(self.asks[name]) for name in group):
+                result |= group
+        return result
 
     def found_circles(self, groups):
         """Returns, for each recursive relation, the set of relations in the relation's cycle. A relation that negates itself is not
         included."""
-        found = {}
+        circles = {}
         for group in groups:
             circle = frozenset(name for name in group if len(group) > 1 or name in self.asks[name])
             bodies = [body for name in circle for _, body in self.rules[name]]
             if not any(denied in circle for body in bodies for literal in body for denied in denied_in(literal)):
-                found.update(dict.fromkeys(circle, circle))
-        return found
+                circles.update(dict.fromkeys(circle, circle))
+        return circles
 
     def can_grow(self, circle):
         """Returns whether a query could come up again with ever larger terms."""
@@ -339,8 +339,8 @@ class Game:
         def seen(look):
             legal = [{move for _, _, move in look.answers(("legal", role, "?move"))} for role in self.roles]
             goals = [{value for _, _, value in look.answers(("goal", role, "?value"))} for role in self.roles]
-            found = legal, goals, look.holds("terminal")
-            return (*found, more(look)) if more else found
+            result = legal, goals, look.holds("terminal")
+            return (*result, more(look)) if more else result
 
         return self.asked(state, (), seen)
 

@@ -206,7 +206,7 @@ class BadInput(InFolder):
         place = "competition.toml:4: games.file: game.kif:"
         self.assert_refused([
             f"{place} largest: sentence 68, line 3: {rule}: 4,225 ground sentences\n{place} largest: sentence 0, line 1: ",
-            f"\n{place} ggp-instantiate: nothing is written, because this exceeds the limit: moves of a (4,225 of 4,096)\n",
+            f"\n{place} ggp-instantiate: nothing is written, because this exceeds the limit: 4,225 moves of a, but at most 4,096 are allowed\n",
         ])
 
     @unittest.skipUnless(shutil.which("gringo"), "gringo is not installed")
@@ -218,7 +218,7 @@ class BadInput(InFolder):
         status, out, said = run(self.folder, "plan")
         self.assertEqual((status, said, [line.split(":")[0] for line in out.splitlines()]), (0, "", ["coins", "coins", "one", "schedule.tsv"]))
         self.assertEqual(out.splitlines()[1], (
-            "coins: goals above 100 are left out (1, the first by sentence 2, line 1: (<= (goal a ?x) (true (s ?x)))): if a role would have such a goal value at the end, it gets its other goal value; "
+            "coins: goals above 100 are left out (1, the first from sentence 2, line 1: (<= (goal a ?x) (true (s ?x)))): if a role would have such a goal value at the end, it gets its other goal value; "
             "if it has no other, the match has no goal values"
         ))
 

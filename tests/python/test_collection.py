@@ -202,8 +202,8 @@ class Commands(WithPile):
     def test_options_that_an_action_has_not_and_what_is_missing(self):
         for words, said in (
             (["sqlite", "--explain", "o", self.pile], "`sqlite` has no option --explain"), (["check", "--games", "x", self.pile], "`check` has no option --games"),
-            (["csv", "--refereed-by", "x", "o", self.pile], "`csv` has no option --refereed-by"), (["check"], "the following arguments are required: PILE"),
-            (["pages"], "the following arguments are required: DIR, PILE"), (["facts", "o"], "the following arguments are required: PILE"), (["log"], "the following arguments are required: LOG"),
+            (["csv", "--refereed-by", "x", "o", self.pile], "`csv` has no option --refereed-by"), (["check"], "the following arguments are required: RECORDS"),
+            (["pages"], "the following arguments are required: DIR, RECORDS"), (["facts", "o"], "the following arguments are required: RECORDS"), (["log"], "the following arguments are required: LOG"),
             (["--jobs", "0", "check", self.pile], "argument --jobs: expected a number from 1 to 1,024, found '0'"),
         ):
             found = self.run_records(*words)

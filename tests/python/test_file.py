@@ -82,7 +82,7 @@ MISTAKES = [
     ('address = "[::1]:9148"', 'address = "[::1]:9148"\nlauncher = ["srun"]', [(20, "players.launcher", "only a player with a `command` has this key")]),
     ('address = "[::1]:9148"', 'command = ["x", "{port}"]\nlauncher = []', [(20, "players.launcher", "expected at least one text"), (17, "players.command", "launcher")]),
     ('address = "[::1]:9148"', 'address = "[::1]:9148"\nmemory = "1G"', [(20, "players.memory", "only a player with a `command` has this key")]),
-    ('address = "[::1]:9148"', 'address = "[::1]:9148"\ncommand = ["x", "{port}"]', [(19, "players.address", "gets its address when it is started"), (17, "players.command", "the matches of a launcher can't reach")]),
+    ('address = "[::1]:9148"', 'address = "[::1]:9148"\ncommand = ["x", "{port}"]', [(19, "players.address", "gets its address when it is started"), (17, "players.command", "a match that a launcher starts can't reach")]),
     *(('address = "[::1]:9148"', new, [(line, f"players.{key}", words), (17, "players.command", "launcher")]) for new, line, key, words in (
         ('command = []', 19, "command", "expected at least one text"), ('command = [""]', 19, "command", "expected at least one text"),
         ('command = ["\\u0000", "{port}"]', 19, "command", "expected at least one text"), ('command = ["x"]', 19, "command", "expected {port} in the command or in the environment"), ('command = ["x", 5, "{port}"]', 19, "command", "a text in quotes"),

@@ -37,7 +37,7 @@ class Held(unittest.TestCase):
         self.assertEqual((status, words.startswith("differs: ann has the goal value 7 in the record")), (DIFFERENT, True))
         self.assertEqual(holding.held(WRONG), (NOT_FOLLOWED, NO_KEY))
         self.assertEqual(Holding("(p", "a.kif").held(RECORD), (NOT_FOLLOWED, "not followed: a.kif: line 1, column 1: a list that is not closed; add a `)`"))
-        self.assertEqual(Holding("(role a)\n(<= p (q ?x) (not (r ?y)))", "a.kif").held(RECORD)[1], "not followed: a.kif: line 2, column 1: ?y is unsafe: it occurs in no sentence of the body except negated ones: (<= p (q ?x) (not (r ?y))); add a condition with ?y that is not negated")
+        self.assertEqual(Holding("(role a)\n(<= p (q ?x) (not (r ?y)))", "a.kif").held(RECORD)[1], "not followed: a.kif: line 2, column 1: ?y is unsafe: no positive sentence of the body contains it: (<= p (q ?x) (not (r ?y))); add a condition with ?y that is not negated")
         with mock.patch.object(command.Following, "follow", side_effect=command.Differs("one\ntwo")):
             self.assertEqual(holding.held(RECORD), (DIFFERENT, "differs: one; two"))
         self.assertEqual((SAME, DIFFERENT, NOT_FOLLOWED), (0, 1, 3))

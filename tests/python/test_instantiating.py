@@ -89,16 +89,17 @@ class Folding(unittest.TestCase):
         folding.begun(by_dice).must_have_room(folding.Target(folded(by_dice, 10_000, 1 << 20).sentences(), 1 << 20))
         game = folding.begun(rules)
         for most, most_bytes, words in (
-            (8, 500, "sentences (at least 9 of 8)"), (9, 1_121, "bytes (at least 1,122 of 1,121, because 9 of 18 sentences must be inlined)"),
-            (12, 500, "bytes (at least 828 of 500, because 6 of 18 sentences must be inlined)"),
-            (17, 0, "bytes (at least 434 of 0, because 1 of 18 sentences must be inlined)"),
+            (8, 500, "at least 9 sentences, but at most 8 are allowed"),
+            (9, 1_121, "9 of 18 sentences must be inlined, which gives at least 1,122 bytes, but at most 1,121 are allowed"),
+            (12, 500, "6 of 18 sentences must be inlined, which gives at least 828 bytes, but at most 500 are allowed"),
+            (17, 0, "1 of 18 sentences must be inlined, which gives at least 434 bytes, but at most 0 are allowed"),
         ):
             self.assertEqual(str(raised(folding.Hopeless, game.must_have_room, folding.Target(most, most_bytes))), words)
         for most, most_bytes in ((9, 1_122), (18, 0)):
             game.must_have_room(folding.Target(most, most_bytes))
         with unittest.mock.patch.object(folding, "MOST_DEEP", 6):
             why = raised(folding.Hopeless, folding.begun(rules).must_have_room, folding.Target(12, 1 << 20))
-        self.assertEqual(str(why), "sentences (at least 18 of 12)")
+        self.assertEqual(str(why), "at least 18 sentences, but at most 12 are allowed")
 
     def test_what_games_by_dice_come_to(self):
         # The number of sentences, the bytes, and the beginning of the checksum. These numbers reveal any change of factoring.
@@ -324,7 +325,7 @@ class Texts(unittest.TestCase):
         few = {"sentences": 100}
         with unittest.mock.patch.dict(limits.MOST, few), unittest.mock.patch.dict(limits.LARGE, few), contextlib.redirect_stderr(io.StringIO()):
             said = str(raised(Refused, making.Making((GAMES / "general/hex.kif").read_text(), 60, making.WHERE_NEEDED).run))
-        self.assertTrue(said.startswith("nothing is written, because this exceeds the limit however it is factored: sentences (at least "), said)
+        self.assertTrue(said.startswith("nothing is written, because this exceeds the limit however it is factored: at least "), said)
         self.assertIn(" ground sentences, because 2 cycles of sentences are unrolled, the largest, of 25 sentences with (joined ", said)
         # There are more unrolled sentences than any sentence has ground rules.
         self.assertNotIn("the most ground rules", said)

@@ -49,11 +49,11 @@ class Made(unittest.TestCase):
     def test_what_is_written_and_said(self):
         found, said = made(GAME)
         self.assertEqual(found.splitlines(), [
-            "; goals above 100 are left out (2, the first by sentence 9, line 3: (<= (goal ?p 101) (role ?p) (true (c 3)))): if a role would have such a goal value at the end, it gets its other goal value; if it has no other, the match has no goal values",
+            "; goals above 100 are left out (2, the first from sentence 9, line 3: (<= (goal ?p 101) (role ?p) (true (c 3)))): if a role would have such a goal value at the end, it gets its other goal value; if it has no other, the match has no goal values",
             "(role r)", "(role s)", "(init (c 1))", "(legal r (m 1))", "(legal r (m 2))", "(legal s (m 1))", "(legal s (m 2))",
             "(<= (next (c 2)) (true (c 1)) (does r (m 1)))", "(<= (next (c 3)) (true (c 2)) (does r (m 2)))", "(<= terminal (true (c 3)))", "(goal r 50)", "(goal s 50)",
         ])
-        self.assertRegex(said, r"^ggp-instantiate: 11 sentences gave 12 ground ones, in \d+\.\d\d s\n  goals above 100 are left out")
+        self.assertRegex(said, r"^ggp-instantiate: 11 sentences became 12 ground sentences in \d+\.\d\d s\n  goals above 100 are left out")
         self.assertIn("\n  sentences               12 of     8,192\n", said)
         self.assertNotIn("ABOVE", said)
 
@@ -64,7 +64,7 @@ class Made(unittest.TestCase):
             self.assertEqual("; factored: 12 ground sentences" in str(found), is_folded, (wanted, limit))
         with mock.patch.dict(limits.MOST, {"sentences": 11}), mock.patch.dict(limits.LARGE, {"sentences": 11}):
             found, _ = made(GAME)
-        self.assertTrue(str(found).startswith("nothing is written, because this exceeds the limit however it is factored: sentences (at least "), found)
+        self.assertTrue(str(found).startswith("nothing is written, because this exceeds the limit however it is factored: at least "), found)
 
     def test_what_is_past_the_usual_limits_says_that_it_is_large(self):
         # The game cannot be factored to fit the limits, or factoring takes too much work, or factoring was not requested.
@@ -96,25 +96,25 @@ class Made(unittest.TestCase):
         with mock.patch.dict(limits.MOST, {"roles": 1, "moves": 2}):
             found, said = made(GAME, NEVER)
         self.assertIsInstance(found, Refused)
-        self.assertTrue(str(found).startswith("nothing is written, because this exceeds the limit: roles (2 of 1)"), found)
+        self.assertTrue(str(found).startswith("nothing is written, because this exceeds the limit: 2 roles, but at most 1 are allowed"), found)
         self.assertIn("2 of         1: ABOVE THE LIMIT\n", said)
         self.assertEqual(said.count("  largest: sentence "), 3)
 
     def test_what_costs_most_is_named_first(self):
         with mock.patch.dict(limits.MOST, {"sentences": 3}), mock.patch.dict(limits.LARGE, {"sentences": 3}):
             found, said = made(GAME, NEVER)
-        self.assertEqual(str(found), "nothing is written, because this exceeds the limit: sentences (12 of 3)")
+        self.assertEqual(str(found), "nothing is written, because this exceeds the limit: 12 sentences, but at most 3 are allowed")
         largest = [line for line in said.splitlines() if line.startswith("  largest: ")]
         self.assertEqual(largest[0], "  largest: sentence 5, line 2: (<= (legal ?p (m ?x)) (role ?p) (succ ?x ?y)): 4 ground sentences")
         with mock.patch.dict(limits.MOST, {"bytes": 3}), mock.patch.dict(limits.LARGE, {"bytes": 3}):
             found, said = made(GAME, NEVER)
-        self.assertRegex(str(found), r"^nothing is written, because this exceeds the limit: bytes \(\d+ of 3\)$")
+        self.assertRegex(str(found), r"^nothing is written, because this exceeds the limit: \d+ bytes, but at most 3 are allowed$")
         self.assertRegex(said, r"  largest: sentence 6, line 2: .*: 92 bytes\n")
 
     def test_one_word_of_a_command_line(self):
         for most, is_said in ((10, True), (100_000, False)):
             with mock.patch.object(limits, "MOST_IN_A_WORD", most):
-                self.assertEqual(f"one argument of a command on Linux, which holds {most:,} bytes" in made(GAME)[1], is_said)
+                self.assertEqual(f"one argument of a command on Linux, which has at most {most:,} bytes" in made(GAME)[1], is_said)
 
     def test_cycles_are_unrolled_and_told(self):
         steps = "(step a b) (step b a) (step b c) (step c b)"

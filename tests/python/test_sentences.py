@@ -26,7 +26,7 @@ class Ways(unittest.TestCase):
         ten = [(str(at),) for at in range(10)]
         self.assertEqual(len(each_of([ten] * 4)), 10_000)
         for many in ([ten, ten, ten, [("x",)] * 11], [[("x",)] * 73, [("x",)] * 137]):
-            self.assertEqual(str(raised(Refused, each_of, many)), "its `or`s can hold in more than 10,000 ways")
+            self.assertEqual(str(raised(Refused, each_of, many)), "its `or`s can be satisfied in more than 10,000 ways")
 
     def test_a_denial_turns_and_and_or(self):
         one, other = ("true", "a"), ("true", "b")
@@ -120,7 +120,7 @@ class Refusals(unittest.TestCase):
             ("(<= p (distinct a))", "(distinct a) is not a sentence", "write (distinct _ _)"), ("(<= p (not))", "(not) is not a sentence", "write (not _)"),
             ("(true p)", "(true p) can't be a head", "`next` and `init` say what is true in a state"), ("(does r m)", "(does r m) can't be a head", "`legal` says which moves there are"),
             ("(<= p (next a))", "(next a) can't be in a body", "use `true` for what is true in the state"), ("(p ())", "() is not a term", ""),
-            ("(p ?x)", "?x is unsafe: it occurs in no sentence of the body except negated ones", "add a condition with ?x that is not negated"),
+            ("(p ?x)", "?x is unsafe: no positive sentence of the body contains it", "add a condition with ?x that is not negated"),
         ):
             self.assertEqual(self.assert_refused(text, words), advice)
 
@@ -135,7 +135,7 @@ class Refusals(unittest.TestCase):
             self.assert_refused(text, f"`sees` {secret}")
 
     def test_a_variable_that_nothing_binds(self):
-        unsafe = "is unsafe: it occurs in no sentence of the body except negated ones"
+        unsafe = "is unsafe: no positive sentence of the body contains it"
         self.assert_refused("(p ?x)", f"?x {unsafe}")
         self.assert_refused("(<= p (not (q ?x)))", f"?x {unsafe}")
         self.assert_refused("(<= p (not (distinct ?x a)))", f"?x {unsafe}")

@@ -461,7 +461,7 @@ def players_of(root: Section) -> tuple[Player, ...]:
     refuse_twice(sections, "address")
     for player in players:
         if player.command and not player.command.launcher and "launcher" in root.table:
-            words = "the matches of a launcher can't reach a player that is started here: give it a `launcher` too"
+            words = "a match that a launcher starts can't reach a player that is started on this computer: give the player a `launcher` too"
             root.mistake("players.command", words, player.line)
     return players
 

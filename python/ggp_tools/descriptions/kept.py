@@ -35,12 +35,12 @@ def cached(kind: str, name: str) -> bytes | None:
             status = os.fstat(file.fileno())
             if status.st_uid != os.geteuid() or status.st_mode & 0o022:
                 return None
-            found = file.read()
+            stored = file.read()
         os.utime(path)
     except (OSError, RuntimeError):
         return None
-    data = found.partition(b"\n")[2]
-    return data if found == sealed(name, data) else None
+    data = stored.partition(b"\n")[2]
+    return data if stored == sealed(name, data) else None
 
 
 def store(kind: str, name: str, data: bytes, most: int) -> None:
@@ -72,10 +72,10 @@ def sum_of_work(text: bytes, options: list[str]) -> str:
 
 def kept(key: str) -> tuple[bytes, bytes] | None:
     """Returns the cached rules and the text for players, or None."""
-    found = cached(KIND, key)
-    if found is None:
+    result = cached(KIND, key)
+    if result is None:
         return None
-    size, _, data = found.partition(b"\n")
+    size, _, data = result.partition(b"\n")
     return data[: int(size)], data[int(size) :]
 
 

@@ -66,7 +66,7 @@ def sentence_starts(text: bytes) -> list[int]:
 
 
 def look_at_sentences(text: bytes) -> None:
-    """Checks the sentences of a text in the way in which `ggp-instantiate` checks them before grounding."""
+    """Checks the sentences of a text as `ggp-instantiate` does before grounding."""
     description = text.decode("latin-1")
     try:
         Relations(all_rules(kif.expressions(description))).refuse_dependence()

@@ -116,7 +116,7 @@ class Index:
                 self.table.setdefault(place, []).append(atom)
 
     def alike(self, atom: Expression) -> Iterable[Expression]:
-        """Returns candidates that may equal `atom`: the candidates that agree with `atom` at the path that leaves the fewest candidates."""
+        """Returns the sentences that may equal `atom`, judging by one path: the path at which the fewest sentences agree with `atom`."""
         # If a sentence has a variable at the path or above it, any value may be there.
         groups = (
             [self.table.get((way[:length], None), ()) for length in range(len(way) + 1)] + [self.table.get((way, word), ())]
@@ -178,7 +178,7 @@ class Description:
                 must_be_literal(literal)
             must_be_atomic(part.atom, True)
         except Refused as why:
-            # A ground description may use these, but they do not have their meaning of GDL-II.
+            # A ground description may use these words, but they do not have their GDL-II meaning.
             if SECRET not in str(why):
                 self.is_well_formed = False
                 return
@@ -248,8 +248,8 @@ def is_too_long(move: Expression) -> bool:
 
 
 def by_name(relations: Iterable[Relation]) -> dict[str, list[int | None]]:
-    """Returns the numbers of arguments of relations by name."""
-    return {name: [count for _, count in found] for name, found in grouped(sorted(relations, key=str), itemgetter(0)).items()}
+    """Returns, for each name, the numbers of arguments of the relations with this name."""
+    return {name: [count for _, count in group] for name, group in grouped(sorted(relations, key=str), itemgetter(0)).items()}
 
 
 class Search:
@@ -413,10 +413,10 @@ def suspicions(text: bytes, ground: bytes | None = None, seconds: float | None =
     return Suspicions(lines_of(description, findings), why or ("" if description.is_well_formed else NOT_ALL))
 
 
-def lines_of(description: Description, found: list[Finding]) -> list[str]:
+def lines_of(description: Description, findings: list[Finding]) -> list[str]:
     """Returns a line for each kind of finding, with the place of the first finding of this kind."""
-    counts, firsts = Counter(finding.kind for finding in found), {}
-    for finding in sorted(found, key=lambda finding: finding.part[:2] if finding.part else (len(description.starts), ())):
+    counts, firsts = Counter(finding.kind for finding in findings), {}
+    for finding in sorted(findings, key=lambda finding: finding.part[:2] if finding.part else (len(description.starts), ())):
         firsts.setdefault(finding.kind, finding)
     shown_ones = list(firsts.values())[:MOST_LINES]
     places_of_parts, lines = description.told_places([finding.part for finding in shown_ones if finding.part]), []

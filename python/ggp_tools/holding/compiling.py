@@ -80,7 +80,7 @@ class Program:
         return name
 
     def table(self, key: tuple, is_timely: bool) -> int:
-        """Returns the number of a table of results. A timely table belongs to one position. All other tables are permanent."""
+        """Returns the number of a table of results. If `is_timely` is set, the results are valid for one position only, otherwise for all."""
         number = self.relations.tables.setdefault(key, len(self.relations.tables))
         if not is_timely:
             self.relations.fixed.setdefault(number, {})
@@ -158,8 +158,8 @@ class Lines:
         if isinstance(condition, Same):
             left, right = (term_text(argument, bound) for argument in condition.arguments)
             return f"{left} {'==' if condition.positive else '!='} {right}"
-        found = self.asked(condition.relation, condition.arguments, bound)
-        return found if condition.positive else f"not {found}"
+        query = self.asked(condition.relation, condition.arguments, bound)
+        return query if condition.positive else f"not {query}"
 
     def cost(self, condition: Condition) -> int:
         """Returns the cost of a test. Tests with lower costs run first."""
@@ -170,8 +170,8 @@ class Lines:
     def texts(self, relation: tuple, arguments: list, bound: dict[str, str]) -> list[str]:
         """Returns expressions for the arguments of a query. If the relation queries itself, terms may grow, so `low` limits their depth."""
         may_grow = relation in self.program.relations.denying
-        found = [(argument, term_text(argument, bound)) for argument in arguments]
-        return [f"low({text})" if may_grow and is_built(argument) else text for argument, text in found]
+        pairs = [(argument, term_text(argument, bound)) for argument in arguments]
+        return [f"low({text})" if may_grow and is_built(argument) else text for argument, text in pairs]
 
     def asked(self, relation: Relation, arguments: Sequence[Term], bound: Bound) -> str:
         texts = self.texts(relation, arguments, bound)

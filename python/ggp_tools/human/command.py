@@ -34,7 +34,7 @@ def main() -> int:
     # If the package is missing, the command ends here.
     environment()
     sys.setrecursionlimit(MOST_CALLS)
-    # A short description may have more moves or larger states than fit into any memory.
+    # Even a short description may have more moves, or larger states, than fit into memory.
     limit_memory(resource.RLIMIT_DATA)
     try:
         server = Server((options.bind, options.port), Seat(options.referee, is_hex=options.board == "hex"))

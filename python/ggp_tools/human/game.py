@@ -42,14 +42,14 @@ class Shown:
         return {spelled(role): self.game.goal(position, role) for role in self.game.roles}
 
     def picture(self, legal: list[str]) -> dict:
-        """Returns the state as HTML, and the legal moves with the places that they name on each of its boards. For each role, it also returns whether
-        the role has several moves, and its last move."""
-        found = last_state(self.states, self.roles, self.named, is_played=True)
+        """Returns the state as HTML, and the legal moves with the places that they name on each board. Also returns, for each role, whether it has
+        several moves, and its last move."""
+        drawing = last_state(self.states, self.roles, self.named, is_played=True)
         for move in filter(words_of, legal):
             self.known.setdefault((words_of(move)[0], len(words_of(move))), set()).add(move)
-        placed = list(map(self.placed, found["drawn"]))
+        placed = list(map(self.placed, drawing["drawn"]))
         return {
-            "state": macros("boards").state(found),
+            "state": macros("boards").state(drawing),
             "legal": [{"text": move, "places": [places.get(move, []) for places in placed]} for move in legal],
             "players": [{"role": spelled(role), "made": self.made.get(role, ""), "can": role in self.choosing} for role in self.game.roles],
         }

@@ -24,7 +24,7 @@ SPARE = 0.5
 PATIENCE = 10.0
 NO_MOVES = ("nil", ())
 OUT_OF_MEMORY = "they need too much memory"
-# A sender becomes the referee with one of these messages.
+# The sender of one of these messages becomes the referee.
 INTRODUCES = "info", "start"
 NO_MATCH = "No match yet: the referee has not sent START."
 # All messages except START have at most 16 moves of 4,096 bytes.
@@ -54,7 +54,7 @@ def members_of(text: str) -> list[str]:
     head = HEAD.match(text)
     rest = text[head.end() :].removesuffix(")") if head else ")"
     try:
-        # The rules in a START are parsed later. Only they could be nested more deeply.
+        # Only the rules in a START may be nested more deeply than this, and they are parsed later.
         begins = starts(rest, MOST_MESSAGE - 1, takes_bytes=True)
     except Refused as why:
         raise Unread(str(why)) from None
@@ -64,10 +64,10 @@ def members_of(text: str) -> list[str]:
 
 
 def game_of(rules: str) -> Game:
-    """Returns the game of the rules in a START. Refuses longer ones than the referee can send, because they could fill the memory."""
+    """Parses the rules in a START. Refuses rules that are longer than a referee can send, because they could exhaust memory."""
     if not rules.startswith("("):
         raise Refused("they are not a list")
-    # The file of the rules needs no space before or after a list.
+    # A file of rules needs no space before or after a list, so these spaces do not count.
     size = len(rules) - rules.count(" (") - rules.count(") ") + rules.count(") (")
     sentences = (index for token, index, around in tokens(rules, takes_bytes=True) if around == 1 and token != ")")
     if size > LARGE["bytes"] + len("()") or next(itertools.islice(sentences, LARGE["sentences"], None), None):
@@ -83,7 +83,7 @@ def clock_of(text: str) -> int:
 
 
 def joint_move(text: str, count: int) -> tuple:
-    """Parses the moves of a message, empty for `NIL`."""
+    """Parses the moves in a message. For `NIL`, returns an empty tuple."""
     (moves,) = expressions(text, MOST_MESSAGE, takes_bytes=True)
     if moves in NO_MOVES:
         return ()
@@ -123,7 +123,7 @@ class Seat:
 
     def answer(self, text: str, receiver: str = "", sender: str = "", is_taken: Callable[[], None] = lambda: None) -> str | None:
         """Answers a message to a receiver. Returns None if the person made no move in time, or if a later message came. Calls `is_taken` before it
-        waits for the person: then the next message may be taken."""
+        waits for the person, so that the next message can be taken."""
         keyword, match = head_of(text)
         if (match, sender) in self.left or not self.is_referee(sender, keyword):
             return "busy"
@@ -165,7 +165,7 @@ class Seat:
         return match == self.match and receiver == self.receiver
 
     def may_start(self, match: str, receiver: str) -> bool:
-        """Returns whether a START may begin a match: no other one is being played. It may be a repeated START of the match that is being played."""
+        """Returns whether a START may begin a match: no match is being played, or the START repeats that of the match that is being played."""
         return self.is_own(match, receiver) or self.is_free()
 
     def is_free(self) -> bool:
@@ -173,7 +173,7 @@ class Seat:
         return not self.match or time.monotonic() > self.expected
 
     def is_person_there(self) -> bool:
-        """Returns whether a page is open. Without an open page, no move is made for the person."""
+        """Returns whether a page is open. If none is open, the player makes no move for the person."""
         return bool(self.pages)
 
     def next_message(self, seconds: int = 0) -> int:
@@ -192,7 +192,7 @@ class Seat:
             return "busy"
         try:
             members = members_of(text)
-            # Another START may have been read since the caller has checked this.
+            # Another START may have been read since the caller checked this.
             asked = self.begin(match, receiver, *members) if len(members) == 4 and self.may_start(match, receiver) else None
         finally:
             reading.release()
@@ -230,16 +230,16 @@ class Seat:
                 self.match = ""
                 self.say(phase="waiting", note=note)
 
-    def follow(self, seconds: int, moves: tuple, found: Callable[[Shown], Value]) -> tuple[int, str, Value]:
-        """Applies the joint move of a message with a clock of this many seconds. Returns the number of the message, a note, and what is found in the
-        new state. The person can leave the match even while the rules are evaluated, which may take forever."""
+    def follow(self, seconds: int, moves: tuple, compute: Callable[[Shown], Value]) -> tuple[int, str, Value]:
+        """Applies the joint move of a message with a clock of this many seconds. Returns the number of the message, a note, and the result of `compute`
+        for the new state. The person can leave the match even while the rules are evaluated, which may take forever."""
         with self.changed:
             asked, shown, sent, reading = self.next_message(seconds), self.shown, self.sent, self.reading
         is_free = reading.acquire(timeout=seconds + PATIENCE)
         try:
             if not is_free:
                 raise Refused("they take too long")
-            return asked, self.advance(shown, moves, sent), found(shown)
+            return asked, self.advance(shown, moves, sent), compute(shown)
         except BAD_RULES as why:
             self.refuse(asked, f"The match can't be followed any more, because of its rules: {str(why) or OUT_OF_MEMORY}")
             raise Unread("the rules of its match can't be followed") from None

@@ -22,15 +22,16 @@ from ggp_tools.instantiating.limits import LARGE
 from ggp_tools.templating import source
 from ggp_tools.visitors import THIS_COMPUTER, Visitors, client_of
 
-# START has the whole rules. Their file has a byte for each atom and between two atoms, and the message at most a space more for each atom.
+# START contains the whole rules. In a file, an atom and the gap after it take at least two bytes. In the message, there may be one more space for
+# each atom.
 MOST_BYTES, MOST_MOVE = LARGE["bytes"] * 3 // 2 + MOST_MESSAGE, 65_536
-# The server stops reading a head after this many bytes, because parsing a longer one may take minutes.
+# The server reads at most this many bytes of the head of a request, because parsing a longer head may take minutes.
 LONGEST_HEAD = 16_384
-# After this many seconds without a change, the page is sent a line. This also detects that the page was closed.
+# After this many seconds without a change, the server sends a line to the page. This also detects that the page was closed.
 ALIVE = 1.0
 # A request must arrive within this many seconds, and one more for each MiB of its body. The client must accept the answer within PATIENCE seconds.
 REQUEST_SECONDS, PATIENCE = 5, 30
-# The maximum number of connections. Within PERIOD seconds, strangers (clients that are neither the referee nor this computer) may begin at most as
+# The maximum number of connections. Within PERIOD seconds, strangers (clients that are neither the referee nor this computer) may open at most as
 # many connections.
 MOST_CONNECTIONS, PERIOD = 128, 1.0
 # The maximum number of long bodies that are read at the same time, so that few of them are in memory.
@@ -58,7 +59,7 @@ class Request(io.RawIOBase):
         self.connection, self.client, self.visitors = connection, client, visitors
         self.is_idle, self.began, self.received, self.most = True, time.monotonic(), 0, LONGEST_HEAD
         self.ends = self.began + REQUEST_SECONDS
-        # Set once the message has been taken, or is not one. The next message waits for that.
+        # Set once the message has been taken, or the request has turned out not to be a message. The next message waits for this.
         self.is_taken, self.before = threading.Event(), None
 
     def readable(self) -> bool:
@@ -77,7 +78,8 @@ class Request(io.RawIOBase):
         return self.received / (time.monotonic() - self.began + 0.001)
 
     def is_whole(self) -> None:
-        """Records that the request has arrived: the connection is no longer closed for another one, and the answer gets a separate deadline."""
+        """Records that the request has arrived. From now on, the connection is not closed in favour of another one, and the answer has a separate
+        deadline."""
         self.is_idle = False
         self.connection.settimeout(PATIENCE)
         # The kernel ends a connection whose client has disappeared without closing it, for example because its computer is offline.
@@ -230,8 +232,8 @@ class Server(ThreadingHTTPServer):
         self.ends, self.strangers = 0.0, []
 
     def verify_request(self, request: socket.socket, client_address: tuple[str, int]) -> bool:
-        """Returns whether a connection gets a thread. A thread costs much more than a refusal. If there are too many connections, the oldest one
-        without a complete request is closed, except for a stranger that has used up its share."""
+        """Returns whether a connection gets a thread, which costs much more than a refusal. A stranger that has used up its share gets none. If there
+        are too many connections, closes the oldest one without a complete request."""
         client = client_of(client_address[0])
         is_stranger = client != THIS_COMPUTER and client_address[0] not in self.seat.referees
         if is_stranger and not self.is_in_share(client) or not self.visitors.has_room_for(client):
@@ -243,8 +245,8 @@ class Server(ThreadingHTTPServer):
         return True
 
     def put_in_order(self, asked: Request) -> None:
-        """Has messages taken in their order if several wait to be accepted, for example because this computer was asleep. A connection on which nothing
-        has arrived yet holds up no message: a browser may open it in advance."""
+        """Makes a message wait for the one before it if both had to wait until they were accepted, for example because this computer was asleep. A
+        connection on which nothing has arrived yet delays no message, because a browser may open it in advance."""
         asked.before = self.last and self.last.is_taken
         if select.select([asked.connection], [], [], 0)[0]:
             self.last = asked
@@ -273,7 +275,7 @@ class Server(ThreadingHTTPServer):
 
     @contextlib.contextmanager
     def reading(self, request: Request) -> Iterator[None]:
-        """Allows a long body to be read. If there are too many, ends the slowest one of the client that has the most."""
+        """Counts a request whose long body is being read. If there are too many, ends the slowest request of the client that has the most."""
         with self.visitors.lock:
             if len(self.readers) == MOST_LONG:
                 counts = Counter(reader.client for reader in (*self.readers, request))

@@ -24,7 +24,7 @@ def write_player_rules(made: Making, file: str) -> None:
     """Writes the description with variables, and reports its length."""
     text = text_for_players(made.sentences, [rule.head for rule in made.ground_rules])
     if len(text) > MOST["bytes"]:
-        raise Refused(f"nothing is written, because the text for players exceeds the limit: bytes ({len(text):,} of {MOST['bytes']:,})")
+        raise Refused(f"nothing is written, because the text for players exceeds the limit: {len(text):,} bytes, but at most {MOST['bytes']:,} are allowed")
     with open(file, "w", encoding="ascii") as stream:
         stream.write(text)
     report(f"  text for players: {len(text):,} bytes with variables, in {file}")

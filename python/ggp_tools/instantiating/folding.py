@@ -27,13 +27,13 @@ ROUNDS = 30
 LEAST_BYTES = 24
 
 
-# In all tested games, factoring took at least MORE_WORK times as much work as first estimated. If sentences must be inlined, the text shrinks at most
-# by the factor SHORTER.
+# In all tested games, factoring took at least MORE_WORK times as much work as first estimated. If sentences must be inlined, the text becomes shorter
+# by a factor of at most SHORTER.
 MORE_WORK, SHORTER = 1.5, 2
 
 
 class Hopeless(Refused):
-    """The game exceeds a limit however it is factored, or factoring takes more work than allowed."""
+    """The game exceeds a limit however it is factored, or factoring it takes more work than allowed."""
 
 
 class Target(NamedTuple):
@@ -45,9 +45,9 @@ class Target(NamedTuple):
 
 
 class Folded:
-    """The game as formulas: the bodies of each head, each a set of formulas that must all be true. For each body, `origins` has the number
-    of its bytes that come from each sentence of the description. A part has no entry: its bytes are divided in the same proportions as
-    those of the bodies that use the part."""
+    """The game as formulas: the bodies of each head, each a set of formulas that must all be true. `origins` says, for each body, how many
+    of its bytes come from each sentence of the description. Parts have no entries in `origins`: the bytes of a part are divided in the
+    same proportions as those of the bodies that use it."""
 
     def __init__(self, rules: list[Rule]) -> None:
         self.formulas, self.bodies, self.sources = Formulas(), {}, {}
@@ -269,26 +269,27 @@ class Folded:
             self.settle()
 
     def must_have_room(self, target: Target) -> None:
-        """Refuses a game early if it cannot be factored to within a target. The sentences of the game's own relations stay, so other
-        sentences must be inlined until their number is within the limit. Later, this can only cost more bytes."""
+        """Refuses a game early if factoring cannot bring it within a target. The sentences of the game's own relations cannot be inlined.
+        So other sentences must be inlined until there are few enough. Inlining them later can only cost more bytes than now."""
         if len(self.own) > target.sentences:
-            raise Hopeless(f"sentences (at least {len(self.own):,} of {target.sentences:,})")
+            raise Hopeless(f"at least {len(self.own):,} sentences, but at most {target.sentences:,} are allowed")
         many = len(self.bodies) - target.sentences
         costs = sorted(cost for cost, *_ in self.costs_of_placing()) if self.sentences() > target.sentences else []
         if many > 0 and len(costs) < many:
-            raise Hopeless(f"sentences (at least {len(self.bodies) - len(costs):,} of {target.sentences:,})")
+            raise Hopeless(f"at least {len(self.bodies) - len(costs):,} sentences, but at most {target.sentences:,} are allowed")
         least = sum(costs[:many]) + LEAST_BYTES * target.sentences
         if many > 0 and least > target.bytes:
-            raise Hopeless(f"bytes (at least {least:,} of {target.bytes:,}, because {many:,} of {len(self.bodies):,} sentences must be inlined)")
+            inlined = f"{many:,} of {len(self.bodies):,} sentences must be inlined"
+            raise Hopeless(f"{inlined}, which gives at least {least:,} bytes, but at most {target.bytes:,} are allowed")
         if costs and MORE_WORK * self.formulas.work > target.work:
             raise Hopeless(f"factoring takes more than {target.work:,} steps")
         if costs:
             self.must_be_short(target)
 
     def must_be_short(self, target: Target) -> None:
-        """Refuses a game if its present length shows that limited work is unlikely to bring it within the target."""
+        """Refuses a game that is so long that the allowed work is unlikely to bring it within the target."""
         if target.work < math.inf and self.bytes() > SHORTER * target.bytes:
-            raise Hopeless(f"bytes (about {self.bytes() // SHORTER:,} of {target.bytes:,})")
+            raise Hopeless(f"about {self.bytes() // SHORTER:,} bytes, but at most {target.bytes:,} are allowed")
 
     def fold(self, target: Target) -> None:
         """Factors the game, and brings it within the target if possible."""
@@ -465,8 +466,8 @@ def begun(rules: list[Rule]) -> Folded:
 
 
 def folded(rules: list[Rule], targets: Sequence[Target]) -> Folded:
-    """Factors the game to within the first of these targets that it can reach. Each target is larger than the previous one. If the game can
-    reach none of them, it is refused."""
+    """Factors the game to within the first target that it can reach. Each target is larger than the previous one. Refuses a game that can
+    reach no target."""
     game, why = None, None
     for target in targets:
         game = game or begun(rules)

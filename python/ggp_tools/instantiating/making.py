@@ -174,19 +174,19 @@ class Making:
         first = next((rule.sentence for rule in rules if limits.is_high(rule.head)), None)
         rules, high = limits.without_high_goals(rules)
         if high:
-            self.notes.append(f"goals above 100 are left out ({high:,}, the first by {self.cited(first)}): {limits.WITHOUT_HIGH_GOALS}")
+            self.notes.append(f"goals above 100 are left out ({high:,}, the first from {self.cited(first)}): {limits.WITHOUT_HIGH_GOALS}")
         rules = grounding.in_order(rules)
         self.know(counted(len(rules), "ground sentence"))
         return rules
 
     def know(self, words: str) -> None:
-        """Stores a fact about a form. If the run has already taken long, also reports the fact at once."""
+        """Stores a fact about a form. If the run has already taken long, also reports the fact immediately."""
         self.known.append(words)
         if time.monotonic() - self.began > SOON:
             report(f"  after {time.monotonic() - self.began:.0f} s: {words}")
 
     def explained(self, why: str) -> str:
-        """Returns the reason, with the known facts about the ground rules."""
+        """Adds the known facts about the ground rules to a reason."""
         why = "; ".join([why, *self.known])
         rule = next(filter(limits.is_endless, self.rules), None)
         # Terms can only grow if the sentence has ground rules.
@@ -203,9 +203,9 @@ class Making:
     # ---- Output ----------------------------------------------------------------------------------
 
     def written(self, rules: list[Rule]) -> Written:
-        """Returns the ground description of rules: unchanged if it is within the usual limits, otherwise factored. If factoring to within
-        the usual limits takes too much work, the description stays unchanged within the large limits, unless it is long and can be made
-        shorter."""
+        """Returns the ground description that these rules make. Leaves it unfactored if it is within the usual limits. If factoring it to
+        within the usual limits takes too much work, but it is within the large limits, leaves it unfactored unless it is long and can be
+        made shorter."""
         plain = self.as_written([(rule.sentence, grounding.sentence_of(rule)) for rule in rules])
         can_stay = self.wanted == WHERE_NEEDED and not plain.past()
         is_short = self.is_large and not plain.is_long() or not plain.is_large
@@ -236,20 +236,20 @@ class Making:
 
     def reported(self, written: Written) -> str:
         """Reports the result and the limits. Returns the text of the result, or refuses the result if it exceeds a limit."""
-        report(f"ggp-instantiate: {counted(len(self.sentences), 'sentence')} gave {counted(len(written.sentences), 'ground one')}, in {time.monotonic() - self.began:.2f} s")
+        report(f"ggp-instantiate: {counted(len(self.sentences), 'sentence')} became {counted(len(written.sentences), 'ground sentence')} in {time.monotonic() - self.began:.2f} s")
         for note in written.notes:
             report(f"  {note}")
         wide = max(len(name) for name, _, _ in written.figures)
         for name, count, most in written.figures:
             report(f"  {name:{wide}} {count:>9,} of {most:>9,}" + (": ABOVE THE LIMIT" if count > most else ""))
         if limits.MOST_IN_A_WORD < len(written.text) and not written.past():
-            report(f"  this is too long for one argument of a command on Linux, which holds {limits.MOST_IN_A_WORD:,} bytes")
+            report(f"  this is too long for one argument of a command on Linux, which has at most {limits.MOST_IN_A_WORD:,} bytes")
         if past := written.past():
             is_bytes = past[0][0] == "bytes"
             costs = written.game.costs(is_bytes) if written.game else limits.costs_of(written.sentences, is_bytes)
             for line in limits.dearest(costs, self.sentences, self.lines, is_bytes):
                 report(f"  largest: {line}")
-            listed = ", ".join(f"{name} ({count:,} of {most:,})" for name, count, most in past)
+            listed = "; ".join(f"{count:,} {name}, but at most {most:,} are allowed" for name, count, most in past)
             raise Refused(f"nothing is written, because this exceeds the limit: {listed}")
         return written.text
 

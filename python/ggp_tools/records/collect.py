@@ -1,16 +1,16 @@
 """Reads files with records of several games, finds the game of each record, and checks each record. Writes the records as tables, pages,
 facts, matches of ggp-base, or text similar to PGN.
 
-    ggp-records --rules RULES check [--explain] PILE ..
-    ggp-records --rules RULES sqlite FILE PILE ..
-    ggp-records --rules RULES csv DIR PILE ..
-    ggp-records --rules RULES pages DIR PILE ..
-    ggp-records --rules RULES ggp-base [--log LOG ..] [--games URL] DIR PILE ..
-    ggp-records --rules RULES pgn [--log LOG ..] FILE PILE ..
-    ggp-records --rules RULES facts [--log LOG ..] [--descriptions DIR] [--refereed-by TEXT] FILE PILE ..
+    ggp-records --rules RULES check [--explain] RECORDS ..
+    ggp-records --rules RULES sqlite FILE RECORDS ..
+    ggp-records --rules RULES csv DIR RECORDS ..
+    ggp-records --rules RULES pages DIR RECORDS ..
+    ggp-records --rules RULES ggp-base [--log LOG ..] [--games URL] DIR RECORDS ..
+    ggp-records --rules RULES pgn [--log LOG ..] FILE RECORDS ..
+    ggp-records --rules RULES facts [--log LOG ..] [--descriptions DIR] [--refereed-by TEXT] FILE RECORDS ..
     ggp-records log LOG ..
 
-A PILE is a file with a record on each line, as written by `season` and `run`, or `-` for standard input. A PILE may be compressed by gzip.
+RECORDS is a file with a record on each line, as `season` and `run` write it, or `-` for standard input. The file may be compressed with gzip.
 Lines of call logs are skipped. Options may come anywhere. RULES is a directory with the ground rules of the games, each in a file NAME.kif.
 A record belongs to the game that has its roles and its first state. --large allows large rules.
 
@@ -24,7 +24,7 @@ The views `counted_players` and `counted_moves` of the database have each lawful
 ggp-base; URL/NAME/ is the address of the game NAME. `pgn` writes the headers and the moves of each match, with an empty line between two
 matches. `facts` writes a line of JSON for each record, with facts that are not in the record. LOG is a log file, or a directory of logs
 such as `logs` of a competition; the times of messages come from it. --descriptions names the directory with the descriptions that were
-grounded; their file names are those of the rules. TEXT names the program that refereed the matches.
+grounded; the files have the same names as those in RULES. TEXT names the program that refereed the matches.
 
 `log` prints logs as text, an event on each line, with at most 200 bytes of each message and each answer.
 
@@ -62,7 +62,7 @@ NOT_LAWFUL = "not lawful: "
 
 
 def counting(lines: Iterable[Judged], counts: collections.Counter[str]) -> Iterator[Judged]:
-    """Yields the lines, and counts them by verdict, whatever the error of an unlawful record is."""
+    """Yields the lines, and counts them by verdict. Does not distinguish the errors of unlawful records."""
     for judged in lines:
         counts[judged.verdict.partition(":")[0]] += 1
         yield judged
@@ -109,12 +109,12 @@ def arguments(words: list[str]) -> argparse.Namespace:
     reader.add_argument("--jobs", type=whole(1, MOST_JOBS), default=len(os.sched_getaffinity(0)), metavar="N", help="at most N processes at a time")
     reader.add_argument("--explain", action="store_true", help="`check`: explain why a record is not lawful")
     reader.add_argument("--log", action="append", metavar="LOG", help="`ggp-base`, `pgn`, `facts`: a log of matches, or a directory of logs; may be given several times")
-    reader.add_argument("--games", metavar="URL", help="`ggp-base`: the address of the published games: the game NAME is at URL/NAME/")
-    reader.add_argument("--descriptions", metavar="DIR", help="`facts`: the directory of the descriptions that were grounded; the files have the names of the rules")
-    text = "`facts`: the program that refereed the matches (default: VERSION next to RULES)"
+    reader.add_argument("--games", metavar="URL", help="`ggp-base`: the address of the published games; the game NAME is at URL/NAME/")
+    reader.add_argument("--descriptions", metavar="DIR", help="`facts`: the directory of the descriptions that were grounded; the files have the same names as those in RULES")
+    text = "`facts`: the program that refereed the matches (default: the text of the file VERSION next to RULES)"
     reader.add_argument("--refereed-by", metavar="TEXT", help=text)
-    reader.add_argument("action", choices=OUTPUTS, help="what to do")
-    reader.add_argument("files", metavar="FILE", nargs="*", help="the output, except for `check` and `log`; then each PILE or, for `log`, each LOG")
+    reader.add_argument("action", choices=OUTPUTS, help="the action")
+    reader.add_argument("files", metavar="FILE", nargs="*", help="first the output, unless the action is `check` or `log`; then the files with records or, for `log`, the logs")
     parsed = reader.parse_intermixed_args(words)
     for option, actions in OWN.items():
         if getattr(parsed, option) and parsed.action not in actions:
@@ -122,7 +122,7 @@ def arguments(words: list[str]) -> argparse.Namespace:
     output = OUTPUTS[parsed.action]
     parsed.output = pathlib.Path(parsed.files.pop(0)) if output and parsed.files else None
     missing = ["--rules"] * (parsed.rules is None and parsed.action != "log") + [output] * (output is not None and not parsed.output)
-    missing += [] if parsed.files else ["LOG" if parsed.action == "log" else "PILE"]
+    missing += [] if parsed.files else ["LOG" if parsed.action == "log" else "RECORDS"]
     if missing:
         reader.error(f"the following arguments are required: {', '.join(missing)}")
     if parsed.output and os.path.lexists(parsed.output):

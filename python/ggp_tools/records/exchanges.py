@@ -38,7 +38,7 @@ class Exchanges:
         return known == message_sum(self.players[role], kind, text)
 
     def broken(self) -> Iterator[tuple[int, int | None]]:
-        """Yields the role and the number of each message whose answer was broken. If an abort was asked for, the number of its ABORT is not
+        """Yields the role and the number of each message whose answer was broken. If somebody asked for an abort, the number of its ABORT is not
         known, because a PLAY of the open turn may have been sent before it."""
         for role in range(len(self.players)):
             marks = [self.record["startMarks"][role], *(turn[role] for turn in self.record["errors"][: self.asked[role]])]

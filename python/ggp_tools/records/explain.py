@@ -237,8 +237,8 @@ def explain_lines(asked_for: argparse.Namespace) -> int:
         # Even if there are no records, the referee reports errors in the rules.
         for batch in itertools.chain([next(batches, [])], batches):
             fitting = [line for line in batch if not line.is_too_long]
-            found = judged(asked_for.program, ["--lines", *words], b"".join(line.data + b"\n" for line in fitting), len(fitting))
-            faults = dict(zip((line.number for line in fitting), found))
+            verdicts = judged(asked_for.program, ["--lines", *words], b"".join(line.data + b"\n" for line in fitting), len(fitting))
+            faults = dict(zip((line.number for line in fitting), verdicts))
             for line in batch:
                 word = faults.get(line.number, line.said)
                 counts[bool(word)] += 1

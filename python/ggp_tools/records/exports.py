@@ -56,12 +56,12 @@ def write_pages(folder: pathlib.Path, lines: Iterable[Judged]) -> None:
 NO_PREVIEW, UNKNOWN = -1, 0
 
 
-def times_of(found: list[Beginning], turns: int) -> tuple[int, list[int]]:
+def times_of(matches: list[Beginning], turns: int) -> tuple[int, list[int]]:
     """Returns when a match began and when each state was reached, in milliseconds since 1970. If several matches in the logs have this id,
     or the logs lack some of the times, the times are unknown."""
-    if len(found) != 1:
+    if len(matches) != 1:
         return UNKNOWN, []
-    times = [found[0].began or UNKNOWN, *(found[0].turns.get(turn, UNKNOWN) for turn in range(1, turns + 1))]
+    times = [matches[0].began or UNKNOWN, *(matches[0].turns.get(turn, UNKNOWN) for turn in range(1, turns + 1))]
     return times[0], times if all(times) else []
 
 

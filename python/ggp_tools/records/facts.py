@@ -108,8 +108,8 @@ class Facts:
         return line_of(values | {"begin": None, "end": None, "host": None, "messages": None, "broken": broken})
 
 
-def line_of(found: dict[str, object]) -> bytes:
-    return (json.dumps(found, separators=(",", ":")) + "\n").encode("ascii")
+def line_of(values: dict[str, object]) -> bytes:
+    return (json.dumps(values, separators=(",", ":")) + "\n").encode("ascii")
 
 
 def write_facts(path: pathlib.Path, lawful: Iterable[tuple[int, Judged]], facts: Facts) -> None:

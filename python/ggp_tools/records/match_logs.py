@@ -106,10 +106,10 @@ class Beginning:
         return began, moment_at(self.ended / 1_000) if self.ended else None, self.host
 
 
-def beginnings(found: Iterable[Event]) -> Iterator[tuple[str, Beginning]]:
+def beginnings(events: Iterable[Event]) -> Iterator[tuple[str, Beginning]]:
     """Yields the matches of a log with their ids. If a match begins again before it is over, the earlier run is dropped."""
     open_matches: dict[str, tuple[Runs, Beginning]] = {}
-    for event in found:
+    for event in events:
         if isinstance(event, Other):
             continue
         if event.match not in open_matches:

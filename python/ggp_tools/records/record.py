@@ -18,8 +18,8 @@ COMPLETED, ABORTED = ("stopping", "finished"), ("aborting", "aborted")
 PHASES = ("starting", "playing", *COMPLETED, *ABORTED)
 ERRORS = ("", "TO", "CE", "RT", "IL ?")
 CAUSE = re.compile(r"(asked|toolong|allretired)|(nolegal|nogoal) (0|[1-9][0-9]?)")
-# A line of a call log, in the form that the referee writes and reads. If a record was appended to a line that was cut off, the result does
-# not match, because no reply ends like a record.
+# A line of a call log, in the form that the referee writes and reads. A line that was cut off and to which a record was appended does not
+# match, because no reply ends like a record.
 ACCOUNT_LINE = re.compile(rb"[0-9]+\t(?:open|strict|next|submit|miss|query|abort)(?: [^\t]*)?\t[^\t]*[0-9A-Za-z)]")
 LONGEST_EXPRESSION, MOST_OF_VALUE, MOST_OF_ROLES = 8_192, 80, 1_000
 # The JSON parser is recursive, and more than ROOM calls overflow its stack. Records are nested three lists deep. The recursion limit
@@ -239,8 +239,8 @@ def record_sum(data: bytes) -> str:
 
 
 def numbered_lines(lines: BinaryIO) -> Iterator[tuple[int, bytes]]:
-    """Yields the lines of a file with their numbers. Of a line that is too long, only the beginning is returned, which is just longer than
-    the limit."""
+    """Yields the lines of a file with their numbers. If a line is too long, yields only its beginning, which is just longer
+    than the limit."""
     return ((number, data.rstrip(b"\r\n")) for number, (data, _) in enumerate(limited_lines(lines, LONGEST_RECORD + 3), 1))
 
 

@@ -68,7 +68,7 @@ ERRORS = {
 # Terms of a state that name the role whose turn it is.
 TURN = re.compile(r"\((?:control|turn|on-turn) ([^()]*)\)")
 
-# A state that is listed as text: the values that its page gets besides the terms of the state.
+# If a state is listed as text, the template gets these values besides the terms of the state.
 LISTED = {"boards": "", "before": None, "gone": [], "is_empty": False, "drawn": [], "more": 0}
 
 # The labels at each place of a board.
@@ -234,10 +234,10 @@ class Named:
 
     @functools.cached_property
     def boards(self) -> list[Board]:
-        """The boards whose places are known without a state, because moves name them. A board whose rows are letters is left out, because
+        """Returns the boards whose places are known without a state, because moves name them. A board whose rows are letters is left out, because
         (on a b) describes a pile of blocks."""
-        found = boards_of_terms({group: {0: terms} for group, terms in self.ground.items() if terms}, Named((), self.is_hex))
-        return [board for board in found if kind_of(board.up) != "letters" and any(places_of(move, board) for move in self.moves)]
+        boards = boards_of_terms({group: {0: terms} for group, terms in self.ground.items() if terms}, Named((), self.is_hex))
+        return [board for board in boards if kind_of(board.up) != "letters" and any(places_of(move, board) for move in self.moves)]
 
 
 @functools.lru_cache(16)
@@ -258,7 +258,7 @@ def boards_of(states: Iterable[list[str]], named: Named = Named()) -> list[Board
 
 def boards_of_terms(terms: dict[Group, dict[int, list[list[str]]]], named: Named) -> list[Board]:
     """Returns the boards for terms that are grouped by relation and state. The boards include the places that the rules name."""
-    boards, found = {}, []
+    boards, result = {}, []
     for group, by_state in terms.items():
         states, seen = list(by_state.values()), members_of(by_state.values())
         words = [word | more for word, more in zip(seen, named.members.get(group, seen))]
@@ -272,8 +272,8 @@ def boards_of_terms(terms: dict[Group, dict[int, list[list[str]]]], named: Named
             known.update(map(tuple, itertools.chain(*states, further)))
     for forms, known in boards.values():
         across, up = (axis_of({words[forms[group_of(words)][0] + side] for words in known}) for side in (0, 1))
-        found += [Board(across, up, forms, known, named.is_hex)] if across and up else []
-    return found
+        result += [Board(across, up, forms, known, named.is_hex)] if across and up else []
+    return result
 
 
 # ---- the page
@@ -303,8 +303,8 @@ def board_places(board: Board, state: list[str]) -> Places:
     """Returns the labels at each place of a board."""
     places = {}
     for term in state:
-        if found := board.known.get(tuple(words_of(term))):
-            places.setdefault(found[:2], []).append(found[2])
+        if entry := board.known.get(tuple(words_of(term))):
+            places.setdefault(entry[:2], []).append(entry[2])
     return places
 
 
@@ -393,7 +393,7 @@ def last_state(states: list[list[str]], roles: Sequence[str], named: Named, is_p
 
 def named_roles(state: list[str], roles: Sequence[str]) -> list[tuple[str, str]]:
     """Returns the roles whose turn it is according to a state. Each comes with the term that says so, such as (control ROLE)."""
-    return [(word, term) for term in state if (found := TURN.fullmatch(term)) for word in found[1].split() if word in roles]
+    return [(word, term) for term in state if (match := TURN.fullmatch(term)) for word in match[1].split() if word in roles]
 
 
 def mover_of(state: list[str], roles: Sequence[str]) -> int | None:
@@ -405,12 +405,12 @@ def mover_of(state: list[str], roles: Sequence[str]) -> int | None:
 
 def turn_of_page(moves: Sequence[str], errors: Sequence[str], mover: int | None, why: Callable[[int, str], str]) -> list[dict[str, object]]:
     """Returns the moves of a turn by role. Replaced moves have the reason."""
-    found = []
+    rows = []
     for role, (move, error) in enumerate(zip(moves, errors)):
         # A role whose turn it is not has one legal move, a single word such as `noop`.
         is_idle = mover not in (None, role) and not error and "(" not in move
-        found.append({"text": move, "error": error, "why": why(role, error) if error else "", "is_idle": is_idle})
-    return found
+        rows.append({"text": move, "error": error, "why": why(role, error) if error else "", "is_idle": is_idle})
+    return rows
 
 
 def weight_of(state: list[str]) -> int:
@@ -466,7 +466,7 @@ def page_of(
         states = list(states_of_page(all_states, roles, frame.named))
     else:
         states = states_of_part(all_states, part, roles, frame.named)
-    # Of a record that is too long, only the first states are known.
+    # If the record is too long, only its first states are known.
     last = len(moves) if part is parts[-1] else part.stop - 1
     turns = []
     for turn in range(max(0, part.start - 1), last):

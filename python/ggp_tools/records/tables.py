@@ -1,5 +1,5 @@
-"""Writes tables of matches, players and moves as an SQLite database or as CSV. Each row says whether its record is lawful, and whether it
-is a copy of an earlier record. The views contain each lawful record once, and no other records."""
+"""Writes tables of matches, players and moves as an SQLite database or as CSV. Each row says whether its record is lawful, and whether
+the record is a copy of an earlier one. The views contain each lawful record once, and no other records."""
 
 import contextlib
 import csv

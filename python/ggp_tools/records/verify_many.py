@@ -4,7 +4,7 @@
 
 PROGRAM is `ggp_manager`, and OPTIONS are those of `verify --lines`, such as `--rules-file FILE`. Standard input is split at line ends into
 pieces of about BYTES bytes (4,194,304 by default). N processes, by default one for each processor, check one piece each. The output, the
-messages on standard error and the exit status are the same as for one process over all lines; docs/COMMANDS.md explains them. There
+messages on standard error and the exit status are those of one process that checks all lines; docs/COMMANDS.md explains them. There
 are three differences: verdicts are written piece by piece; the number of reads is not limited; and the file of rules cannot be a pipe,
 because each process reads it.
 

@@ -50,7 +50,7 @@ def begun(words, **streams):
 
 
 def wait_until(is_so, seconds, rest=0.01):
-    """Returns whether a condition becomes true within the time limit."""
+    """Waits until a condition is true, or until the time limit. Returns whether it became true."""
     ends = time.monotonic() + seconds
     while not is_so():
         if time.monotonic() > ends:
@@ -75,8 +75,8 @@ def asked_for_seconds(program, words, text=b""):
 
 
 def asked_in_shell(program, words, streams, text=b"", before=""):
-    """Like `asked`, but with redirections by the shell in `streams`; for example, `>&-` closes standard output. Before the program, the
-    shell may run the command `before`."""
+    """Like `asked`, but with redirections by the shell in `streams`; for example, `>&-` closes standard output. The shell runs the command
+    `before` first, if it is given."""
     call = ["bash", "-c", f'{before} exec "$0" "$@" {streams}', program, *words]
     ran = subprocess.run(call, input=text, capture_output=True, timeout=PATIENCE)
     return Said(ran.returncode, ran.stdout, ran.stderr.decode(errors="replace"))
@@ -115,7 +115,7 @@ def read_to_close(end, look=lambda said: None):
             said += piece
             look(said)
     except OSError:
-        # The other end is closed.
+        # The program has closed the other end.
         pass
     os.close(end)
     return said.decode().replace("\r\n", "\n")

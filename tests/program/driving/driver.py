@@ -30,10 +30,10 @@ def program_of(about: str) -> str:
 
 
 def tell(name: str, faults: Iterable[str], well: str) -> int:
-    """Prints each error after the test's name, or `well` if there are no errors. Returns the exit status."""
-    found = [f"{name}: {fault}" for fault in faults]
-    print(*found or [well], sep="\n")
-    return int(bool(found))
+    """Prints each error with the test's name before it, or `well` if there are no errors. Returns the exit status."""
+    errors = [f"{name}: {fault}" for fault in faults]
+    print(*errors or [well], sep="\n")
+    return int(bool(errors))
 
 
 def run_test(about: str, faults: Callable[[str], Iterable[str]], well: str) -> NoReturn:

@@ -21,11 +21,11 @@ def names_in(field: str) -> list[list[str]]:
 
 def installed(text: str) -> dict[str, Package]:
     """Parses the packages in a text of fields."""
-    found = {}
+    packages = {}
     for line in text.splitlines():
         name, needs, provides = line.split("\t")
-        found[name] = Package(names_in(needs), [names[0] for names in names_in(provides)])
-    return found
+        packages[name] = Package(names_in(needs), [names[0] for names in names_in(provides)])
+    return packages
 
 
 def closure(wanted: typing.Iterable[str], known: dict[str, Package]) -> list[str]:

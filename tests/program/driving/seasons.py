@@ -38,7 +38,7 @@ def start(program, words, plan, records, **more):
 
 
 def all_said(child):
-    """Returns what a program writes to its pipes until it ends. A program that does not end is killed."""
+    """Returns what a program writes to its pipes until it ends. Kills a program that does not end."""
     try:
         return child.communicate(timeout=PATIENCE)
     except subprocess.TimeoutExpired:
@@ -49,8 +49,8 @@ def all_said(child):
 def ended(child):
     """Returns the exit status of a program. If its standard error is a pipe, also returns the standard error. Kills a program that does not
     end."""
-    told = all_said(child)[1]
-    return child.returncode, told
+    messages = all_said(child)[1]
+    return child.returncode, messages
 
 
 def whole_lines(text):
@@ -75,7 +75,7 @@ def cut_off(folder):
 def events_in(log, event="message"):
     """Returns the objects of this event in a log that may also have other lines."""
     objects = [json.loads(line) for line in log.splitlines() if line.startswith('{"event":')]
-    return [found for found in objects if found["event"] == event]
+    return [entry for entry in objects if entry["event"] == event]
 
 
 def records_in(lines):
@@ -96,9 +96,9 @@ def faults_of_records(program, game, text, ids, players):
     except ValueError as fault:
         yield f"a line is not a record: {fault}"
         return
-    found = [record["matchId"] for record in records]
-    if sorted(found) != sorted(ids):
-        yield f"{len(ids)} matches: lost {sorted({*ids} - {*found})}, twice {sorted({match for match in found if found.count(match) > 1})}"
+    recorded = [record["matchId"] for record in records]
+    if sorted(recorded) != sorted(ids):
+        yield f"{len(ids)} matches: lost {sorted({*ids} - {*recorded})}, twice {sorted({match for match in recorded if recorded.count(match) > 1})}"
     checked = run(program, ["verify", "--lines", *game], text.decode())
     if checked.stdout != "lawful\n" * len(ids):
         yield f"not every record is lawful: {checked.stderr.strip()}"
