@@ -24,7 +24,7 @@ from ggp_tools.competition.open_match import OpenMatch, leave_players
 from ggp_tools.competition.plan import Plan, plan_next_round, refuse_addresses, refuse_lost_results, round_words
 from ggp_tools.competition.schedule import Match
 from ggp_tools.competition.slots import Slots
-from ggp_tools.competition.started_players import StartedPlayers
+from ggp_tools.competition.started_players import StartedPlayers, spelled_place
 from ggp_tools.printable import counted
 from ggp_tools.processes import apart
 from ggp_tools.referee import Referee
@@ -208,9 +208,9 @@ class Playing:
             leave_players(folder.open / match)
         silent = await send_aborts(self.referee, places, seconds)
         for match, players in places.items():
-            self.reporter.line(f"abort {match}: {', '.join(players)}")
+            self.reporter.line(f"abort {match}: {', '.join(map(spelled_place, players))}")
             if match in silent:
-                self.reporter.line(f"no answer to abort {match}: {', '.join(silent[match])}")
+                self.reporter.line(f"no answer to abort {match}: {', '.join(map(spelled_place, silent[match]))}")
             elif match not in going_on:
                 shutil.rmtree(folder.open / match, ignore_errors=True)
 
