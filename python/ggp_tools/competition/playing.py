@@ -67,6 +67,10 @@ class Playing:
         self.group: asyncio.TaskGroup | None = None
         self.watch: Callable[[dict], str | None] | None = None
 
+    def count_over(self) -> int:
+        """Returns how many matches have a result and count, as the table does."""
+        return sum(match.id in self.results and match.counts() for match in self.plan.matches)
+
     def may_begin(self, match: Match | None = None) -> bool:
         """Returns whether more matches may begin. If a match is given, whose players are free, returns whether it may begin."""
         return not self.interrupts and not self.is_full and not (match and match.game in self.stopped)
@@ -164,7 +168,7 @@ class Playing:
         while self.reporter.is_shown:
             open_matches = [(open_match.match, time.monotonic() - open_match.taken_at) for open_match in self.open]
             left = seconds_left(self.waiting, open_matches, self.took, concurrent, self.at_once)
-            self.reporter.progress(len(self.results), len(self.open), len(self.waiting), left)
+            self.reporter.progress(self.count_over(), len(self.open), len(self.waiting), left)
             await asyncio.sleep(REDRAWN)
 
     async def show_results(self) -> None:
