@@ -1,16 +1,21 @@
 """Rematches: which matches may be played again, and which files this changes."""
 
+import argparse
+import contextlib
 import dataclasses
+import io
 import pathlib
 import tempfile
 import types
 import unittest
 from unittest import mock
 
+from ggp_tools.competition import command, playing
 from ggp_tools.competition.competition_file import read_competition
 from ggp_tools.competition.files import Folder, Refused, held
 from ggp_tools.competition.growth import Again, History
 from ggp_tools.competition.plan import Plan, order_again, replaceable_match, schedule_of
+from ggp_tools.descriptions.loading import Rules
 from support import raised, toml
 
 RULES = {"nim": types.SimpleNamespace(text=b"(role first) (role second)", roles=("first", "second"), is_large=False)}
@@ -61,6 +66,28 @@ class OrderedAgain(unittest.TestCase):
         self.assertEqual((match.id, match.players, match.instead_of), ("cup-003", ("ann", "bob"), "cup-001"))
         self.assertEqual(self.folder.again.read_text(), "match\tinstead of\treason\ncup-003\tcup-001\tthe network was down\n")
         self.assertEqual(self.folder.schedule.read_text(), "id\tgame\tstart\tplay\tplayers\ncup-001\tnim\t10\t5\tann bob\ncup-002\tnim\t10\t5\tbob ann\ncup-003\tnim\t10\t5\tann bob\n")
+
+    def said(self, call, **asked):
+        said = io.StringIO()
+        with contextlib.redirect_stdout(said), contextlib.redirect_stderr(io.StringIO()):
+            self.assertEqual(call(argparse.Namespace(**asked)), 0)
+        return said.getvalue().splitlines()
+
+    def test_play_counts_the_same_matches_as_the_table(self):
+        """The match that was replaced has a record, too."""
+        rules = {"nim": Rules(RULES["nim"].text, "0" * 64, RULES["nim"].roles)}
+        order = Again("cup-003", "cup-001", "the network was down")
+        matches = schedule_of(self.folder, self.plan.competition, RULES, History((), (order,))).matches
+        self.plan = dataclasses.replace(self.plan, rules=rules, matches=matches)
+        for match in matches:
+            names = '","'.join(match.players).encode()
+            self.folder.record(match.id).write_bytes(RECORD.replace(b"cup-001", match.id.encode()).replace(b'ann","bob', names))
+            self.folder.account(match.id).write_bytes(ACCOUNT.replace(b"cup-001", match.id.encode()))
+        self.enterContext(mock.patch.object(playing, "refuse_addresses", return_value={}))
+        with mock.patch.object(command, "read_plan", return_value=self.plan), mock.patch.object(command, "write_matches"):
+            played = self.said(lambda asked: command.play_planned(self.plan, asked, Lawful()), at_once=1, watch=False)
+            table = self.said(lambda asked: command.run_table(asked, Lawful()), folder=["."], to=None)
+        self.assertEqual((played, table[0]), (["2 of 2 matches have a lawful record; 1 match does not count"], "cup: 2 of 2 matches"))
 
     def test_orders_before_it_stay(self):
         order = Again("cup-003", "cup-002", "first")

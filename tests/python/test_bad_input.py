@@ -1,6 +1,7 @@
 """Bad input: each command reports the place of the error, and writes nothing."""
 
 import contextlib
+import io
 import os
 import shutil
 import subprocess
@@ -124,6 +125,13 @@ class BadInput(InFolder):
                 why, note = trial(b"(role a)", None, "game")
             self.assertIsNone(why)
             self.assertIn(words, note)
+
+    def test_the_progress_of_a_plan_is_written_only_to_a_terminal(self):
+        for is_terminal in (False, True):
+            with contextlib.redirect_stdout(io.StringIO()) as out, contextlib.redirect_stderr(io.StringIO()) as said:
+                said.isatty = lambda: is_terminal
+                self.assertEqual(trial((GAMES / "countdown.kif").read_bytes(), None, "game"), (None, None))
+            self.assertEqual((out.getvalue(), said.getvalue() != "", "game: random match 1" in said.getvalue()), ("", is_terminal, is_terminal))
 
     def played(self):
         """Plans a competition, and writes a fake record of a match. Returns the files of the plan with their contents."""

@@ -354,6 +354,73 @@ class Pages(Served):
         self.assertTrue(self.next_event(events)["reload"])
         self.assertTrue(self.next_event(self.events(self.page("/").replace("?after=", "?after=old")))["reload"])
 
+    def change_plan(self, matches):
+        """Has another plan with these matches."""
+        plan = dataclasses.replace(self.plan, matches=matches)
+        self.site.read_plan = lambda: plan
+        self.plan.folder.schedule.write_text("another")
+
+    def assert_first(self, *words):
+        """Checks what the first page says, and that it has ratings."""
+        first = self.page("/")
+        for word in words:
+            self.assertIn(word, first)
+        self.assertNotIn("not read yet", first)
+        self.assertNotIn("none", [row[-1] for row in rows_of(parsed(first).find(id="standings"))[1:]])
+        return first
+
+    def test_no_record_is_read_again_after_a_plan_that_only_grows(self):
+        *begun, new = self.plan.matches
+        self.site = self.server.site = LiveSite(dataclasses.replace(self.plan, matches=begun), Referee(program()), lambda: self.plan)
+        for match in begun:
+            end(self.plan, match, record_of(match, [["(take 2)", "noop"]], [["TO", ""]], [50, 50]))
+        self.look()
+        replaced = parsed(self.assert_first("5 of 5 matches are over.")).find(id="replaced")
+        with patch.object(live.Reader, "take_record", side_effect=AssertionError):
+            self.change_plan([*begun, new])
+            self.look()
+            first = self.assert_first("5 of 6 matches are over.", "Leader", "0 matches are open, 1 is waiting")
+            self.assertEqual(rows_of(parsed(first).find(id="replaced")), rows_of(replaced))
+        end(self.plan, begun[0], record_of(begun[0], [], [], [100, 0]))
+        self.look()
+        self.assert_first("5 of 6 matches are over.", f"{begun[0].players[0]} won")
+
+    def test_the_old_plan_is_shown_until_the_records_of_the_new_one_are_read(self):
+        for match in self.plan.matches:
+            end(self.plan, match, record_of(match, [], [], [50, 50]))
+        self.look()
+        paths = ["/", "/matches.html", "/players/player-cid.html", "/api/matches", "/api/table", "/metrics"]
+        before, events = self.pages(paths), self.events(self.page("/"))
+        self.change_plan([dataclasses.replace(match, withdrawn="cid has withdrawn") if "cid" in match.players else match for match in self.plan.matches])
+        with patch.object(live, "READING", -1):
+            for left in (4, 3, 2, 1):
+                self.look()
+                self.assertEqual(self.pages(paths), before)
+                self.assertEqual(len(self.site.newest.unread), left)
+                self.site.newest.update_record(self.site.newest.unread.popleft())
+            self.assert_first("6 of 6 matches are over.")
+            self.look()
+        self.assert_first("2 of 2 matches are over.")
+        self.assertTrue(self.next_event(events)["reload"])
+
+    def pages(self, paths):
+        """Returns what is at these paths, except the time of day, the versions and the visitors."""
+        return [re.sub('data-(now|events)="[^"]*"|"now": [0-9.]*|ggp_serve_.*', "", self.page(path)) for path in paths]
+
+    def test_a_match_that_has_begun_is_not_shown_as_that_of_the_old_plan(self):
+        first, *others = self.plan.matches
+        for match in others:
+            end(self.plan, match, record_of(match, [], [], [50, 50]))
+        self.look()
+        new, path = dataclasses.replace(first, players=first.players[::-1]), f"/api/matches/{first.id}"
+        self.change_plan([new, *(dataclasses.replace(match, withdrawn="x has withdrawn") for match in others)])
+        with patch.object(live, "READING", -1):
+            self.look()
+            self.assertEqual(json.loads(self.page(path))["players"], [*first.players])
+            begin(self.plan, new)
+            self.look()
+        self.assertEqual([json.loads(self.page(path))[key] for key in ("players", "state")], [[*new.players], "open"])
+
     def test_a_plan_that_can_not_be_read(self):
         match, other, path = *self.plan.matches[:2], self.plan.folder.path
         end(self.plan, other, record_of(other, [["(take 1)", "noop"]], [["", ""]], [0, 100]))

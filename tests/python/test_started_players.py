@@ -13,7 +13,7 @@ import types
 import unittest
 
 import pytest
-from ggp_tools.competition import children, job, jobs, started_players
+from ggp_tools.competition import children, job, jobs, started_players, trying
 from ggp_tools.competition.competition_file import Command, Player
 from ggp_tools.competition.files import Folder
 from ggp_tools.competition.started_players import PlayerLog, StartedPlayer, StartedPlayers, mistakes_of_programs
@@ -425,6 +425,30 @@ def test_the_memory_of_all_processes_is_bounded_where_systemd_takes_it(tmp_path,
 
 # ---- logs
 
+class Dying(StartedPlayer):
+    """A player that dies while it is checked."""
+
+    async def ready(self, match):
+        self.job, self.address = types.SimpleNamespace(running=asyncio.Future()), "127.0.0.1:4711"
+        self.reporter.line(f"died {match} ann: it ended with status 1: no memory")
+
+    async def end(self):
+        self.address = started_players.NOWHERE
+
+
+def test_try_reports_a_player_that_dies_after_the_table_and_not_in_it(tmp_path, capfd):
+    referee = types.SimpleNamespace(path="echo", rules_words=lambda _: [])
+    remarks, game = trying.Remarks(), types.SimpleNamespace(name="nim", start=1, play=1)
+    dying = Dying(Folder(tmp_path), Player("ann", "", 1, 1), 0, referee, remarks)
+    assert asyncio.run(trying.checked(dying, remarks, referee, game, types.SimpleNamespace(text=b"", player_rules=None))) == 0
+    said = capfd.readouterr()
+    assert said == ("check --start=1 --play=1 -- ann@127.0.0.1:4711\n", "ggp_competition: ann (127.0.0.1:4711) died: it ended with status 1: no memory\n")
+
+
+def test_a_player_that_is_not_running_has_no_address_in_messages():
+    assert [*map(started_players.spelled_place, ("ann@127.0.0.1:1", "bob@127.0.0.1:11"))] == ["ann (not reachable)", "bob@127.0.0.1:11"]
+
+
 def test_a_log_is_rotated(tmp_path, monkeypatch):
     monkeypatch.setattr(started_players, "MOST_BYTES", 100)
     log = PlayerLog(tmp_path / "ann.log")
@@ -611,7 +635,7 @@ class Started(InFolder):
         file = self.folder / "competition.toml"
         file.write_text(file.read_text().replace('"{port}", "1"]', '"{port}", "no seed"]', 1))
         status, out, said = run(self.folder, "try", "competition.toml", "ann")
-        self.assertEqual((status, out.partition(";")[0]), (1, "down try ann: it ended with status 2"), said)
+        self.assertEqual((status, out, said.partition(";")[0]), (1, "", "ggp_competition: ann is not reachable: it ended with status 2"))
 
     @unittest.skipUnless(shutil.which("gringo"), "gringo is not installed")
     def test_try_sends_the_rules_and_the_clocks_of_the_game(self):

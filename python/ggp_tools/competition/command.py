@@ -21,7 +21,7 @@ from ggp_tools.competition.schedule import Match
 from ggp_tools.referee import NoReferee, Referee, Unchecked, find_program
 from ggp_tools.competition.serving import add_serve, run_serve
 from ggp_tools.competition.table import tables_of
-from ggp_tools.competition.table_text import in_order, joined, table_files, table_text, without_record
+from ggp_tools.competition.table_text import count_of_planned, in_order, joined, table_files, table_text, without_record
 from ggp_tools.printable import counted, printable
 from ggp_tools.reporting import NOT_BEGUN, Journal, Reporter
 from ggp_tools.streams import PACKED, ready_streams, say, whole
@@ -171,6 +171,12 @@ def not_played(plan: Plan) -> str:
     return f"; {count} {'is' if count == 1 else 'are'} not played, because a player has withdrawn" if count else ""
 
 
+def not_counted(plan: Plan) -> str:
+    """Returns how many matches have a record, but do not count."""
+    count = sum(not match.counts() and plan.folder.record(match.id).exists() for match in plan.matches)
+    return f"; {counted(count, 'match', 'does', 'do')} not count" if count else ""
+
+
 def growth(plan: Plan) -> str:
     """Describes the matches that a plan has added since matches were played."""
     if plan.known is None:
@@ -252,7 +258,7 @@ def play_planned(plan: Plan, asked: argparse.Namespace, referee: Referee) -> int
         left = 0
     elif left:
         reporter.sum_up(f"rounds that are not planned yet: {left} of {left + len(plan.rounds)}")
-    reporter.sum_up(f"{len(playing.results)} of {len(playing.results) + len(missing)} matches have a lawful record{not_played(plan)}")
+    reporter.sum_up(f"{playing.count_over()} of {count_of_planned(plan)} matches have a lawful record{not_played(plan)}{not_counted(plan)}")
     if reporter.fault:
         raise reporter.fault
     return bool(missing or lacks_pages or left)

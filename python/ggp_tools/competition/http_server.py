@@ -197,7 +197,7 @@ class Server:
 
     async def watch(self) -> None:
         while True:
-            await asyncio.sleep(0 if self.site.reader.unread else INTERVAL)
+            await asyncio.sleep(0 if self.site.newest.unread else INTERVAL)
             await self.update()
 
     # ---- requests

@@ -15,8 +15,8 @@ import re
 import time
 from collections import Counter, deque
 from collections.abc import Callable, Collection, Container, Iterable, Iterator
-from dataclasses import dataclass, field
-from typing import NamedTuple
+from dataclasses import dataclass, field, replace
+from typing import NamedTuple, TypeVar
 
 from ggp_tools.competition.competition_file import EACH_MATCH
 from ggp_tools.competition.files import ASKING, STAGES, Folder, lock_place, opened_file
@@ -56,6 +56,7 @@ REFEREE_SHARE = 3
 OUT_OF_FILES = errno.EMFILE, errno.ENFILE
 # The directories in an absolute path of a file.
 WHOLE_PATH = re.compile(r"(?<![\w./-])/(?:[^\s/]+/)*(?=[^\s/])")
+Value = TypeVar("Value")
 
 
 # The number, the size and the time of a file. The identity changes if the file is replaced or written again.
@@ -318,11 +319,15 @@ def is_locked(folder: pathlib.Path) -> bool:
         return False
 
 
+def of_names(values: dict[str, Value], names: Iterable[str]) -> dict[str, Value]:
+    return {name: values[name] for name in names if name in values}
+
+
 class Reader:
     """The matches as the directory of a competition has them or, with a delay, as it had them that many seconds ago. `version` counts the changes of
     open matches, and `results_version` those of results."""
 
-    def __init__(self, plan: Plan, referee: Referee, delay: Delay | None = None) -> None:
+    def __init__(self, plan: Plan, referee: Referee, delay: Delay | None = None, before: "Reader | None" = None) -> None:
         self.plan, self.referee, self.delay = plan, referee, delay or Delay()
         # These matches, and those that are open, are in the schedule's order.
         self.known = {match.id: match for match in plan.matches}
@@ -355,6 +360,20 @@ class Reader:
         self.news: list[News] = []
         # How often each player was restarted, and for which match it was last restarted.
         self.restarted: dict[str, tuple[int, str]] = {}
+        if before:
+            self.keep(before)
+
+    def keep(self, before: "Reader") -> None:
+        """Takes the results of the matches that are the same in an earlier plan, so that their records are not read again."""
+        plans = before.plan, self.plan
+        if len({(plan.competition.strikes, plan.competition.forfeit, plan.competition.faults) for plan in plans}) > 1:
+            return
+        games = {game for game, rules in self.plan.rules.items() if rules == before.plan.rules.get(game)}
+        names = [match.id for match in self.plan.matches if match.game in games and match == before.known.get(match.id)]
+        self.results = {name: replace(before.results[name], match=self.known[name]) for name in names if name in before.results}
+        self.over, self.ended = of_names(before.over, names), of_names(before.ended, names)
+        self.faults, self.identities = of_names(before.faults, names), of_names(before.identities, names)
+        self.replaced = [move for move in before.replaced if move.match.id in self.results]
 
     def update(self) -> Iterator[None]:
         """Reads what has changed since the last update. Yields after each of many records, so that a page can be made then."""

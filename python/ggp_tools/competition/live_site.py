@@ -173,12 +173,17 @@ class LiveSite:
         # If the files can't be read, `plans` has the reason instead of a plan.
         self.plan_stamp, shown = plan_stamp(plan.folder) if stamp is None else stamp, without_new_rounds(plan, delay)
         self.plans: list[tuple[float, Plan | str]] = [] if shown is plan else [(live.clock(), plan)]
-        self.begin(shown)
+        self.trouble = self.fault = ""
+        self.begin(Reader(shown, referee, self.delay))
 
-    def begin(self, plan: Plan) -> None:
-        self.plan, self.trouble, self.fault = plan, "", ""
-        self.reader = Reader(plan, self.referee, self.delay)
-        self.site = SiteOfShown(plan, self.reader)
+    def begin(self, reader: Reader) -> None:
+        """Begins to show the plan of a reader."""
+        # `newest` reads the directory. After a change of the plan, it is not shown before it has read all records.
+        self.plan, self.reader, self.newest, self.fault = reader.plan, reader, reader, ""
+        for page in self.pages.values():
+            page.is_final = True
+        self.pages.clear()
+        self.site = SiteOfShown(self.plan, reader)
         # The states of open matches as HTML, each with the version of its board.
         self.states: dict[str, tuple[int, "Markup"]] = {}
         self.tables: list[Table] = []
@@ -195,10 +200,12 @@ class LiveSite:
     def steps(self) -> Iterator[bool]:
         """Does the work of `update` in steps, so that other pages can be made between them."""
         self.update_plan()
-        for _ in self.reader.update():
-            # Right after a plan is read, it has no pages.
+        for _ in self.newest.update():
+            # Before the first update, there are no pages.
             if self.made:
                 yield True
+        if self.newest is not self.reader and self.is_read():
+            self.begin(self.newest)
         self.count_results()
         yield True
         self.follow()
@@ -230,7 +237,7 @@ class LiveSite:
             raise faults[0]
 
     def update_plan(self) -> None:
-        """Reads the plan if it has changed. Starts again if the plan that is shown has changed."""
+        """Reads the plan if it has changed. When the new plan may be shown, begins to read its matches."""
         stamp = plan_stamp(self.plan.folder)
         if stamp != self.plan_stamp:
             self.plan_stamp = stamp
@@ -246,11 +253,17 @@ class LiveSite:
             if isinstance(plan, str):
                 self.trouble = plan
                 continue
-            for page in self.pages.values():
-                page.is_final = True
-            self.pages = OrderedDict()
-            self.begin(plan)
+            self.trouble, self.newest = "", Reader(plan, self.referee, self.delay, self.newest)
+            # Incomplete pages are replaced at once.
+            if not self.made or self.reader.unread:
+                self.begin(self.newest)
         self.delay.coming = {match.id: match for _, plan in self.plans if isinstance(plan, Plan) for match in plan.matches}
+
+    def is_read(self) -> bool:
+        """Returns whether the newest plan can be shown: its records are read, or a match has begun that the pages show as over or as another one."""
+        shown, read = self.reader, self.newest
+        is_other = any(name in shown.known and shown.known[name].line() != read.known[name].line() for name in (*read.open, *read.unread))
+        return is_other or not read.open.keys().isdisjoint(shown.results) or not (read.unread or read.unlisted)
 
     def count_results(self) -> None:
         """Computes the tables if results have changed, but not too often."""
@@ -287,7 +300,7 @@ class LiveSite:
     # ---- pages
 
     def shown_trouble(self) -> str:
-        return self.trouble or self.fault or self.reader.trouble()
+        return self.trouble or self.fault or self.newest.trouble()
 
     def stamp(self, path: str) -> tuple | None:
         """Returns the data that a page is made from, or None if there is no such page. Equal data gives equal pages."""

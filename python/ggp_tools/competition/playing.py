@@ -24,7 +24,7 @@ from ggp_tools.competition.open_match import OpenMatch, leave_players
 from ggp_tools.competition.plan import Plan, plan_next_round, refuse_addresses, refuse_lost_results, round_words
 from ggp_tools.competition.schedule import Match
 from ggp_tools.competition.slots import Slots
-from ggp_tools.competition.started_players import StartedPlayers
+from ggp_tools.competition.started_players import StartedPlayers, spelled_place
 from ggp_tools.printable import counted
 from ggp_tools.processes import apart
 from ggp_tools.referee import Referee
@@ -66,6 +66,10 @@ class Playing:
         self.disk: concurrent.futures.Executor | None = None
         self.group: asyncio.TaskGroup | None = None
         self.watch: Callable[[dict], str | None] | None = None
+
+    def count_over(self) -> int:
+        """Returns how many matches have a result and count, as the table does."""
+        return sum(match.id in self.results and match.counts() for match in self.plan.matches)
 
     def may_begin(self, match: Match | None = None) -> bool:
         """Returns whether more matches may begin or, if a match is given, whether it may begin. The players of this match must be free."""
@@ -164,7 +168,7 @@ class Playing:
         while self.reporter.is_shown:
             open_matches = [(open_match.match, time.monotonic() - open_match.taken_at) for open_match in self.open]
             left = seconds_left(self.waiting, open_matches, self.took, concurrent, self.at_once)
-            self.reporter.progress(len(self.results), len(self.open), len(self.waiting), left)
+            self.reporter.progress(self.count_over(), len(self.open), len(self.waiting), left)
             await asyncio.sleep(REDRAWN)
 
     async def show_results(self) -> None:
@@ -208,9 +212,9 @@ class Playing:
             leave_players(folder.open / match)
         silent = await send_aborts(self.referee, places, seconds)
         for match, players in places.items():
-            self.reporter.line(f"abort {match}: {', '.join(players)}")
+            self.reporter.line(f"abort {match}: {', '.join(map(spelled_place, players))}")
             if match in silent:
-                self.reporter.line(f"no answer to abort {match}: {', '.join(silent[match])}")
+                self.reporter.line(f"no answer to abort {match}: {', '.join(map(spelled_place, silent[match]))}")
             elif match not in going_on:
                 shutil.rmtree(folder.open / match, ignore_errors=True)
 

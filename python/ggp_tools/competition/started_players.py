@@ -199,6 +199,11 @@ class StartedPlayer:
         self.job, self.address, self.has_answered = None, NOWHERE, False
 
 
+def spelled_place(place: str) -> str:
+    """Returns a player with its address for messages. A player that is not running has none."""
+    return f"{place.removesuffix(f'@{NOWHERE}')} (not reachable)" if place.endswith(f"@{NOWHERE}") else place
+
+
 def words_of_end(job: Job) -> str:
     return job.why or ("it can't be started" if job.status is None else ended_words(job.status))
 

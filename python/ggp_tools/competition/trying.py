@@ -14,9 +14,28 @@ from ggp_tools.competition.started_players import StartedPlayer
 from ggp_tools.descriptions.loading import Rules
 from ggp_tools.referee import Referee
 from ggp_tools.reporting import Reporter
+from ggp_tools.streams import report
 
 # The word that replaces the id of a match in reports.
 NO_MATCH = "try"
+
+
+class Remarks(Reporter):
+    """Keeps what is reported about the player until the table of `check` is complete."""
+
+    def __init__(self) -> None:
+        super().__init__()
+        self.rows: list[str] = []
+
+    def line(self, text: str) -> None:
+        self.rows.append(text)
+
+    def tell(self, player: str, address: str) -> None:
+        """Writes the rows to standard error, as sentences about a player with this address."""
+        for row in self.rows:
+            kind, _, words = row.partition(f"{player}: ")
+            state = "is not reachable" if kind.startswith("down") else f"({address}) died"
+            report(words if words.startswith("| ") else f"ggp_competition: {player} {state}: {words}")
 
 
 def chosen(competition: Competition, path: pathlib.Path, name: str, game: str | None) -> tuple[Player, Game]:
@@ -30,10 +49,12 @@ def chosen(competition: Competition, path: pathlib.Path, name: str, game: str | 
     return player, first
 
 
-async def checked(started: StartedPlayer, referee: Referee, game: Game, rules: Rules) -> int:
+async def checked(started: StartedPlayer, remarks: Remarks, referee: Referee, game: Game, rules: Rules) -> int:
     """Starts a player, and returns the exit status of `check` for this player. If the player does not start, returns 1."""
+    address = ""
     try:
         await started.ready(NO_MATCH)
+        address = started.address
         if not started.is_running():
             return 1
         with tempfile.TemporaryDirectory() as directory:
@@ -47,6 +68,7 @@ async def checked(started: StartedPlayer, referee: Referee, game: Game, rules: R
             return await process.wait()
     finally:
         await started.end()
+        remarks.tell(started.name, address)
 
 
 def run_try(asked: argparse.Namespace, referee: Referee) -> int:
@@ -60,5 +82,6 @@ def run_try(asked: argparse.Namespace, referee: Referee) -> int:
     # The lock keeps `play` from starting the same player.
     with held(folder.path):
         folder.make(folder.players)
-        started = StartedPlayer(folder, player, 0, referee, Reporter())
-        return asyncio.run(checked(started, referee.taking(rules.is_large), game, rules))
+        remarks = Remarks()
+        started = StartedPlayer(folder, player, 0, referee, remarks)
+        return asyncio.run(checked(started, remarks, referee.taking(rules.is_large), game, rules))
