@@ -69,7 +69,7 @@ fn push_opening(out: &mut Vec<u8>, game: usize, start: u32, play: u32) -> Result
     push_behind_space(out, u64::from(play))
 }
 
-/// Appends an `Open` call to `out`: as an `open` line if `strikes` is 0, and otherwise as a `strict` line.
+/// Appends an `Open` call without its players to `out`: as an `open` line if `strikes` is 0, and otherwise as a `strict` line.
 fn push_open(
     out: &mut Vec<u8>,
     id: &Text,
@@ -77,19 +77,16 @@ fn push_open(
     start: u32,
     play: u32,
     strikes: u32,
-    players: &Texts,
 ) -> Result<(), AllocError>
-    ensures { OnOk result (out.new.items ≡ out.old.items ++ call_text (Open id.now game start play strikes players.now)) }
+    ensures { OnOk result (out.new.items ≡ out.old.items ++ call_text (Open id.now game start play strikes [])) }
 {
     if strikes == 0 {
         push_keyword(out, b"open", id)?;
-        push_opening(out, game, start, play)?;
-        return push_names(out, players.as_slice());
+        return push_opening(out, game, start, play);
     }
     push_keyword(out, b"strict", id)?;
     push_opening(out, game, start, play)?;
-    push_behind_space(out, u64::from(strikes))?;
-    push_names(out, players.as_slice())
+    push_behind_space(out, u64::from(strikes))
 }
 
 /// Appends the call to `out` as in a script, except that names and text are escaped.
@@ -104,7 +101,10 @@ fn push_call(out: &mut Vec<u8>, call: &Call) -> Result<(), AllocError>
             play,
             strikes,
             players,
-        } => push_open(out, id, *game, *start, *play, *strikes, players),
+        } => {
+            push_open(out, id, *game, *start, *play, *strikes)?;
+            push_names(out, players.as_slice())
+        }
         Call::Next { id, role } => {
             push_keyword(out, b"next", id)?;
             push_behind_space(out, *role as u64)

@@ -4,7 +4,7 @@ ghost use Rattle.ground_rules.specs.Fit.{truth, any_true, all_true};
 ghost use Rattle.ground_rules.specs.Numbered.{bit, numbered, view, views};
 ghost use Rattle.packed_rules.specs.Bits.{bits_of};
 ghost use Rattle.packed_rules.specs.Internal.PlacedRules.{AreTestsCut};
-ghost use Rattle.packed_rules.specs.Internal.PackedPass.{all_pass, all_agree, all_fire, packed_after, tests_after, rules_in, IsCut};
+ghost use Rattle.packed_rules.specs.Internal.PackedPass.{all_pass, all_agree, packed_after, tests_after, rules_in, IsCut};
 
 use crate::bits::{BitRow, is_on, is_on_after, is_on_before, turn_on_after};
 use crate::rule_table::RuleTable;
@@ -83,24 +83,6 @@ fn all_agree(tests: &[MoveTest], joint: &[usize]) -> bool
     true
 }
 
-/// Whether all literals of a rule are true. Tests come first, since they fail most often.
-fn fires(
-    tests: &[Test],
-    moves: &[MoveTest],
-    others: &[Literal],
-    words: &[u64],
-    size: usize,
-    terms: usize,
-    joint: &[usize],
-) -> bool
-    requires { size ≤ length words.now * 64 }
-    ensures { result ≡ all_fire terms joint.now (bits_of words.now size) tests.now moves.now others.now }
-{
-    all_pass(tests, words, size)
-        && all_agree(moves, joint)
-        && all_hold(others, words, size, terms, joint)
-}
-
 /// Evaluates the rules in order, and sets the head of each rule whose literals are true. Each rule takes its literals from
 /// the front of the remaining ones.
 fn sweep(table: &RuleTable, words: &mut [u64], size: usize, terms: usize, joint: &[usize])
@@ -120,7 +102,11 @@ fn sweep(table: &RuleTable, words: &mut [u64], size: usize, terms: usize, joint:
         } else {
             let (own_moves, later_moves) = moves.split_at(rule.moves);
             let (own_others, later_others) = others.split_at(rule.others);
-            if fires(own_tests, own_moves, own_others, words, size, terms, joint) {
+            // Tests come first, since they fail most often.
+            if all_pass(own_tests, words, size)
+                && all_agree(own_moves, joint)
+                && all_hold(own_others, words, size, terms, joint)
+            {
                 turn_on_after(words, size, terms, rule.head);
             }
             moves = later_moves;

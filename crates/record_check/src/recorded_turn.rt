@@ -17,6 +17,14 @@ use match_book::{
 use record_reading::VerifyFault;
 use std::alloc::{AllocError, Global};
 
+/// A turn of a record: its number, counted from 0, and each role's move and error.
+#[derive(Clone, Copy)]
+pub struct RecordedTurn<'a> {
+    pub number: usize,
+    pub moves: &'a [Text],
+    pub errors: &'a [Text],
+}
+
 #[derive(Drop)]
 enum RecordedMove<M> {
     /// A legal move with an error that it can have.
@@ -110,23 +118,21 @@ fn next_moves<G: Game>(
     }
 }
 
-/// The joint move with these texts, or the error of the lowest role that is wrong. `strikes` has the roles' strikes after
-/// the earlier turns. Computes each role's legal moves only once, because this may take long.
+/// The joint move of the turn, or the error of the lowest role that is wrong. `strikes` has the roles' strikes after the
+/// earlier turns. Computes each role's legal moves only once, because this may take long.
 fn recorded_joint<G: Game>(
     alloc: Global,
     game: &G,
     state: &G::State,
     strikes: &[RoleStrikes],
-    turn: usize,
-    moves: &[Text],
-    errors: &[Text],
+    turn: RecordedTurn<'_>,
 ) -> Result<Joint<G::Move>, VerifyFault>
     requires state { (G.rules game.now).IsState state.now }
-    requires moves { length moves.now ≡ (G.rules game.now).roles }
-    requires errors { length errors.now ≡ (G.rules game.now).roles }
-    requires error_texts { All IsErrorText errors.now }
+    requires moves { length turn.moves.now ≡ (G.rules game.now).roles }
+    requires errors { length turn.errors.now ≡ (G.rules game.now).roles }
+    requires error_texts { All IsErrorText turn.errors.now }
     requires strikes { length strikes.now ≡ (G.rules game.now).roles }
-    ensures { IsJointAnswer (G.rules game.now) (is_retired_in strikes.now) state.now moves.now errors.now turn result }
+    ensures { IsJointAnswer (G.rules game.now) (is_retired_in strikes.now) state.now turn.entry.moves.now turn.entry.errors.now turn.entry.number result }
 {
     let Some(lists) = next_moves(alloc, game, state, strikes)? else {
         return Err(VerifyFault::WrongEnd);
@@ -135,37 +141,34 @@ fn recorded_joint<G: Game>(
     let mut joint = Vec::with_capacity(alloc, roles)?;
     for role in 0..roles {
         let legal = lists[role].as_slice();
-        let text = moves[role].as_slice();
-        let error = errors[role].as_slice();
+        let text = turn.moves[role].as_slice();
+        let error = turn.errors[role].as_slice();
         let is_retired = is_retired_at(strikes, role);
         match recorded_move(alloc, game, is_retired, legal, text, error)? {
             RecordedMove::Right(taken) => joint.push(taken)?,
-            RecordedMove::NoMove => return Err(VerifyFault::Illegal(turn, role)),
-            RecordedMove::WrongError => return Err(VerifyFault::NotFirst(turn, role)),
-            RecordedMove::WrongRetired => return Err(VerifyFault::WrongRetired(turn, role)),
+            RecordedMove::NoMove => return Err(VerifyFault::Illegal(turn.number, role)),
+            RecordedMove::WrongError => return Err(VerifyFault::NotFirst(turn.number, role)),
+            RecordedMove::WrongRetired => return Err(VerifyFault::WrongRetired(turn.number, role)),
         }
     }
     Ok(Joint { moves: joint })
 }
 
-/// The state after a turn with these moves and errors, or the first error of the turn. `strikes` has the roles' strikes
-/// after the earlier turns.
+/// The state after the turn, or the first error of the turn. `strikes` has the roles' strikes after the earlier turns.
 pub fn replay_turn<G: Game>(
     alloc: Global,
     game: &G,
     state: &G::State,
     strikes: &[RoleStrikes],
-    turn: usize,
-    moves: &[Text],
-    errors: &[Text],
+    turn: RecordedTurn<'_>,
 ) -> Result<G::State, VerifyFault>
     requires state { (G.rules game.now).IsState state.now }
-    requires moves { length moves.now ≡ (G.rules game.now).roles }
-    requires errors { length errors.now ≡ (G.rules game.now).roles }
-    requires error_texts { All IsErrorText errors.now }
+    requires moves { length turn.moves.now ≡ (G.rules game.now).roles }
+    requires errors { length turn.errors.now ≡ (G.rules game.now).roles }
+    requires error_texts { All IsErrorText turn.errors.now }
     requires strikes { length strikes.now ≡ (G.rules game.now).roles }
-    ensures { IsTurnAnswer (G.rules game.now) (is_retired_in strikes.now) state.now moves.now errors.now turn result }
+    ensures { IsTurnAnswer (G.rules game.now) (is_retired_in strikes.now) state.now turn.entry.moves.now turn.entry.errors.now turn.entry.number result }
 {
-    let joint = recorded_joint(alloc, game, state, strikes, turn, moves, errors)?;
+    let joint = recorded_joint(alloc, game, state, strikes, turn)?;
     Ok(game.next(alloc, state, joint.as_slice())?)
 }

@@ -8,7 +8,7 @@ ghost use Rattle.record_check.specs.Internal.ReplaySteps.{IsReplayAnswer};
 ghost use Rattle.record_reading.specs.declared.verify_fault.VerifyFault.TheVariants.{Memory};
 
 use crate::ending::{are_goals_in, is_right_end};
-use crate::recorded_turn::replay_turn;
+use crate::recorded_turn::{RecordedTurn, replay_turn};
 use game_core::{Game, Text};
 use match_book::laws::{
     begun_rounds_are_open, lawful_turns_are_of_the_game, one_more_turn, stages_are_settled,
@@ -69,7 +69,12 @@ fn replay_turns<G: Game>(
         }
         let moves = parts.moves.at(turn);
         let errors = parts.errors.at(turn);
-        state = replay_turn(alloc, game, &state, strikes.as_slice(), turn, moves, errors)?;
+        let recorded = RecordedTurn {
+            number: turn,
+            moves,
+            errors,
+        };
+        state = replay_turn(alloc, game, &state, strikes.as_slice(), recorded)?;
         strikes = strikes_after(alloc, parts.strikes, strikes.as_slice(), errors)?;
     }
     if !shows_state(alloc, game, parts, turns, &state)? {

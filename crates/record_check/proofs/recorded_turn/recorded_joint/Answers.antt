@@ -44,8 +44,8 @@ recorded_move-requires-clause-differ g c =
 
 pub recorded_move-requires-clause-error : goal.recorded_move-requires-clause-error
 recorded_move-requires-clause-error g c =
-    let in_errors : c.loop-role.role < length c.args.errors.now = omega (arith, c.roles-roles.ensures, c.loop-role-test.true, c.requires.errors) in
-    let error : c.as_slice-error.result.now ≡ text_at c.args.errors.now c.loop-role.role = c.as_slice-error.ensures ∙ get_or_read c.args.errors.now c.loop-role.role c.index-errors-role.result in_errors c.index-errors-role.is [] in
+    let in_errors : c.loop-role.role < length c.args.turn.errors.now = omega (arith, c.roles-roles.ensures, c.loop-role-test.true, c.requires.errors) in
+    let error : c.as_slice-error.result.now ≡ text_at c.args.turn.errors.now c.loop-role.role = c.as_slice-error.ensures ∙ sym c.index-turn-role-in-loop-role.is ∙ get_or_read c.args.turn.errors.now c.loop-role.role c.index-turn-role-in-loop-role.result in_errors c.index-turn-role-in-loop-role.is [] in
     subst IsErrorText (sym error) (c.requires.error_texts c.loop-role.role [] in_errors)
 
 pub returns-in-NoMove : goal.returns-in-NoMove
@@ -55,9 +55,9 @@ returns-in-NoMove g c =
     let role = c.loop-role.role in
     let lists = MatchOption-at_some (¬ (GoesOn game (is_retired_in c.args.strikes.now) s)) (λ lists. GoesOn game (is_retired_in c.args.strikes.now) s × AreLegalMoves game s lists.items) c.in-Some.lists c.in-Some.is c.in_ok-lists.ensures in
     let within : role < game.roles = omega (arith, c.roles-roles.ensures, c.loop-role-test.true) in
-    let in_moves : role < length c.args.moves.now = omega (arith, c.requires.moves) in
+    let in_moves : role < length c.args.turn.moves.now = omega (arith, c.requires.moves) in
     let legal : c.as_slice-legal.result.now ≡ game.legal s role = c.as_slice-legal.ensures ∙ moves-at game s c.in-Some.lists.items role c.index.result.now lists.1 within c.index.ensures in
-    let text : c.as_slice-text.result.now ≡ text_at c.args.moves.now role = c.as_slice-text.ensures ∙ get_or_read c.args.moves.now role c.index-moves-role.result in_moves c.index-moves-role.is [] in
+    let text : c.as_slice-text.result.now ≡ text_at c.args.turn.moves.now role = c.as_slice-text.ensures ∙ sym c.index-turn-role.is ∙ get_or_read c.args.turn.moves.now role c.index-turn-role.result in_moves c.index-turn-role.is [] in
     let none = subst (λ o. IsRecorded game c.is_retired_at-is_retired.result c.as_slice-legal.result.now c.as_slice-text.result.now c.as_slice-error.result.now o) c.in-NoMove.is c.in_ok-taken.ensures in (
       refl,
       record { goes_on = lists.0; within = within; right = c.loop-role.invariant.right },
@@ -71,15 +71,15 @@ returns-in-WrongError g c =
     let role = c.loop-role.role in
     let lists = MatchOption-at_some (¬ (GoesOn game (is_retired_in c.args.strikes.now) s)) (λ lists. GoesOn game (is_retired_in c.args.strikes.now) s × AreLegalMoves game s lists.items) c.in-Some.lists c.in-Some.is c.in_ok-lists.ensures in
     let within : role < game.roles = omega (arith, c.roles-roles.ensures, c.loop-role-test.true) in
-    let in_moves : role < length c.args.moves.now = omega (arith, c.requires.moves) in
-    let in_errors : role < length c.args.errors.now = omega (arith, c.requires.errors) in
+    let in_moves : role < length c.args.turn.moves.now = omega (arith, c.requires.moves) in
+    let in_errors : role < length c.args.turn.errors.now = omega (arith, c.requires.errors) in
     let legal : c.as_slice-legal.result.now ≡ game.legal s role = c.as_slice-legal.ensures ∙ moves-at game s c.in-Some.lists.items role c.index.result.now lists.1 within c.index.ensures in
-    let text : c.as_slice-text.result.now ≡ text_at c.args.moves.now role = c.as_slice-text.ensures ∙ get_or_read c.args.moves.now role c.index-moves-role.result in_moves c.index-moves-role.is [] in
-    let error : c.as_slice-error.result.now ≡ text_at c.args.errors.now role = c.as_slice-error.ensures ∙ get_or_read c.args.errors.now role c.index-errors-role.result in_errors c.index-errors-role.is [] in
+    let text : c.as_slice-text.result.now ≡ text_at c.args.turn.moves.now role = c.as_slice-text.ensures ∙ sym c.index-turn-role.is ∙ get_or_read c.args.turn.moves.now role c.index-turn-role.result in_moves c.index-turn-role.is [] in
+    let error : c.as_slice-error.result.now ≡ text_at c.args.turn.errors.now role = c.as_slice-error.ensures ∙ sym c.index-turn-role-in-loop-role.is ∙ get_or_read c.args.turn.errors.now role c.index-turn-role-in-loop-role.result in_errors c.index-turn-role-in-loop-role.is [] in
     let wrong = subst (λ (ms : List g.row.G-Move.Denot). IsRecorded game c.is_retired_at-is_retired.result ms c.as_slice-text.result.now c.as_slice-error.result.now WrongError) legal (subst (λ o. IsRecorded game c.is_retired_at-is_retired.result c.as_slice-legal.result.now c.as_slice-text.result.now c.as_slice-error.result.now o) c.in-WrongError.is c.in_ok-taken.ensures) in (
       refl,
       record { goes_on = lists.0; within = within; right = c.loop-role.invariant.right },
-      subst (λ e. IsWrongError game (game.legal s role) (text_at c.args.moves.now role) e) error
+      subst (λ e. IsWrongError game (game.legal s role) (text_at c.args.turn.moves.now role) e) error
           (subst (λ t. IsWrongError game (game.legal s role) t c.as_slice-error.result.now) text wrong),
     )
 
@@ -90,16 +90,16 @@ returns-in-WrongRetired g c =
     let role = c.loop-role.role in
     let lists = MatchOption-at_some (¬ (GoesOn game (is_retired_in c.args.strikes.now) s)) (λ lists. GoesOn game (is_retired_in c.args.strikes.now) s × AreLegalMoves game s lists.items) c.in-Some.lists c.in-Some.is c.in_ok-lists.ensures in
     let within : role < game.roles = omega (arith, c.roles-roles.ensures, c.loop-role-test.true) in
-    let in_moves : role < length c.args.moves.now = omega (arith, c.requires.moves) in
-    let in_errors : role < length c.args.errors.now = omega (arith, c.requires.errors) in
+    let in_moves : role < length c.args.turn.moves.now = omega (arith, c.requires.moves) in
+    let in_errors : role < length c.args.turn.errors.now = omega (arith, c.requires.errors) in
     let legal : c.as_slice-legal.result.now ≡ game.legal s role = c.as_slice-legal.ensures ∙ moves-at game s c.in-Some.lists.items role c.index.result.now lists.1 within c.index.ensures in
-    let text : c.as_slice-text.result.now ≡ text_at c.args.moves.now role = c.as_slice-text.ensures ∙ get_or_read c.args.moves.now role c.index-moves-role.result in_moves c.index-moves-role.is [] in
-    let error : c.as_slice-error.result.now ≡ text_at c.args.errors.now role = c.as_slice-error.ensures ∙ get_or_read c.args.errors.now role c.index-errors-role.result in_errors c.index-errors-role.is [] in
+    let text : c.as_slice-text.result.now ≡ text_at c.args.turn.moves.now role = c.as_slice-text.ensures ∙ sym c.index-turn-role.is ∙ get_or_read c.args.turn.moves.now role c.index-turn-role.result in_moves c.index-turn-role.is [] in
+    let error : c.as_slice-error.result.now ≡ text_at c.args.turn.errors.now role = c.as_slice-error.ensures ∙ sym c.index-turn-role-in-loop-role.is ∙ get_or_read c.args.turn.errors.now role c.index-turn-role-in-loop-role.result in_errors c.index-turn-role-in-loop-role.is [] in
     let wrong = subst (λ (ms : List g.row.G-Move.Denot). IsRecorded game c.is_retired_at-is_retired.result ms c.as_slice-text.result.now c.as_slice-error.result.now WrongRetired) legal (subst (λ o. IsRecorded game c.is_retired_at-is_retired.result c.as_slice-legal.result.now c.as_slice-text.result.now c.as_slice-error.result.now o) c.in-WrongRetired.is c.in_ok-taken.ensures) in (
       refl,
       record { goes_on = lists.0; within = within; right = c.loop-role.invariant.right },
-      subst (λ (b : Bool). IsWrongRetired game b (game.legal s role) (text_at c.args.moves.now role) (text_at c.args.errors.now role)) c.is_retired_at-is_retired.ensures
-          (subst (λ e. IsWrongRetired game c.is_retired_at-is_retired.result (game.legal s role) (text_at c.args.moves.now role) e) error
+      subst (λ (b : Bool). IsWrongRetired game b (game.legal s role) (text_at c.args.turn.moves.now role) (text_at c.args.turn.errors.now role)) c.is_retired_at-is_retired.ensures
+          (subst (λ e. IsWrongRetired game c.is_retired_at-is_retired.result (game.legal s role) (text_at c.args.turn.moves.now role) e) error
           (subst (λ t. IsWrongRetired game c.is_retired_at-is_retired.result (game.legal s role) t c.as_slice-error.result.now) text wrong)),
     )
 
@@ -110,14 +110,14 @@ loop-role-preserved g c =
     let role = c.loop-role.role in
     let lists = MatchOption-at_some (¬ (GoesOn game (is_retired_in c.args.strikes.now) s)) (λ lists. GoesOn game (is_retired_in c.args.strikes.now) s × AreLegalMoves game s lists.items) c.in-Some.lists c.in-Some.is c.in_ok-lists.ensures in
     let within : role < game.roles = omega (arith, c.roles-roles.ensures, c.loop-role-test.true) in
-    let in_moves : role < length c.args.moves.now = omega (arith, c.requires.moves) in
-    let in_errors : role < length c.args.errors.now = omega (arith, c.requires.errors) in
+    let in_moves : role < length c.args.turn.moves.now = omega (arith, c.requires.moves) in
+    let in_errors : role < length c.args.turn.errors.now = omega (arith, c.requires.errors) in
     let legal : c.as_slice-legal.result.now ≡ game.legal s role = c.as_slice-legal.ensures ∙ moves-at game s c.in-Some.lists.items role c.index.result.now lists.1 within c.index.ensures in
-    let text : c.as_slice-text.result.now ≡ text_at c.args.moves.now role = c.as_slice-text.ensures ∙ get_or_read c.args.moves.now role c.index-moves-role.result in_moves c.index-moves-role.is [] in
-    let error : c.as_slice-error.result.now ≡ text_at c.args.errors.now role = c.as_slice-error.ensures ∙ get_or_read c.args.errors.now role c.index-errors-role.result in_errors c.index-errors-role.is [] in
+    let text : c.as_slice-text.result.now ≡ text_at c.args.turn.moves.now role = c.as_slice-text.ensures ∙ sym c.index-turn-role.is ∙ get_or_read c.args.turn.moves.now role c.index-turn-role.result in_moves c.index-turn-role.is [] in
+    let error : c.as_slice-error.result.now ≡ text_at c.args.turn.errors.now role = c.as_slice-error.ensures ∙ sym c.index-turn-role-in-loop-role.is ∙ get_or_read c.args.turn.errors.now role c.index-turn-role-in-loop-role.result in_errors c.index-turn-role-in-loop-role.is [] in
     let right = subst (λ (ms : List g.row.G-Move.Denot). IsRecorded game c.is_retired_at-is_retired.result ms c.as_slice-text.result.now c.as_slice-error.result.now (Right c.in-Right.taken)) legal (subst (λ o. IsRecorded game c.is_retired_at-is_retired.result c.as_slice-legal.result.now c.as_slice-text.result.now c.as_slice-error.result.now o) c.in-Right.is c.in_ok-taken.ensures) in
-    subst (λ (js : List g.row.G-Move.Denot). SoFar game (is_retired_in c.args.strikes.now) s c.args.moves.now c.args.errors.now (role + 1) js) (sym c.in_ok-push-in-Right.ensures.items)
-    (SoFar-more game (is_retired_in c.args.strikes.now) s c.args.moves.now c.args.errors.now role c.loop-role.joint.items c.in-Right.taken c.as_slice-text.result.now c.as_slice-error.result.now c.loop-role.invariant in_moves text error right.0
+    subst (λ (js : List g.row.G-Move.Denot). SoFar game (is_retired_in c.args.strikes.now) s c.args.turn.moves.now c.args.turn.errors.now (role + 1) js) (sym c.in_ok-push-in-Right.ensures.items)
+    (SoFar-more game (is_retired_in c.args.strikes.now) s c.args.turn.moves.now c.args.turn.errors.now role c.loop-role.joint.items c.in-Right.taken c.as_slice-text.result.now c.as_slice-error.result.now c.loop-role.invariant in_moves text error right.0
     (subst (λ (b : Bool). IsPart game b (game.legal s role) c.in-Right.taken c.as_slice-error.result.now) c.is_retired_at-is_retired.ensures right.1))
 
 pub returns : goal.returns
@@ -126,4 +126,4 @@ returns g c =
     let s = c.args.state.now in
     let lists = MatchOption-at_some (¬ (GoesOn game (is_retired_in c.args.strikes.now) s)) (λ lists. GoesOn game (is_retired_in c.args.strikes.now) s × AreLegalMoves game s lists.items) c.in-Some.lists c.in-Some.is c.in_ok-lists.ensures in
     let all : c.loop-role.role ≡ game.roles = omega (arith, c.loop-role-test.false, c.loop-role.auto.role-end, c.roles-roles.ensures) in
-    SoFar-all game (is_retired_in c.args.strikes.now) s c.args.moves.now c.args.errors.now c.loop-role.role c.loop-role.joint.items c.loop-role.invariant lists.0 all c.requires.moves
+    SoFar-all game (is_retired_in c.args.strikes.now) s c.args.turn.moves.now c.args.turn.errors.now c.loop-role.role c.loop-role.joint.items c.loop-role.invariant lists.0 all c.requires.moves
