@@ -23,7 +23,7 @@ use crate::retirement::{
 };
 use crate::role_moves::RoleMoves;
 use crate::settlement::settle;
-use crate::turn::{Turn, count_errors, move_texts, parts_with, turn_of};
+use crate::turn::{Turn, count_errors, move_texts, parts_of, turn_of};
 use desk_calls::{Answer, Due, LentAnswer, Owed, Setup, Status};
 use game_core::{Game, Texts};
 use std::alloc::{AllocError, Global};
@@ -494,7 +494,8 @@ impl<G: Game> Match<G> {
         let answers = self.open_answers.as_slice();
         let strikes = self.strikes.as_slice();
         let legal = self.legal.as_slice();
-        let parts = parts_with(alloc, game, answers, strikes, legal, role, judged)?;
+        let mut parts = parts_of(alloc, game, answers, strikes, legal)?;
+        parts[role] = Some(judged);
         turn_of(alloc, parts)
     }
 

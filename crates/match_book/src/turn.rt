@@ -1,5 +1,5 @@
 //! Turns, and how open answers become a turn.
-ghost use Rattle.std.specs.Prelude.{◌≡◌, ◌<◌, ◌++◌, if◌then◌else◌, All, IfOk, IfSome, OnOk, Some, map, count_by, length, option_to_list, slice_set};
+ghost use Rattle.std.specs.Prelude.{◌≡◌, ◌++◌, if◌then◌else◌, All, IfOk, IfSome, OnOk, map, count_by, length, option_to_list};
 ghost use Rattle.match_book.specs.Judgement.{substitute};
 ghost use Rattle.match_book.specs.declared.judgement.Substitution.TheVariants.{Retired};
 ghost use Rattle.match_book.specs.Roles.{of_each_role};
@@ -55,7 +55,7 @@ fn part_of<G: Game>(
 }
 
 /// Each role's part of the turn.
-fn parts_of<G: Game>(
+pub fn parts_of<G: Game>(
     alloc: Global,
     game: &G,
     answers: &[Option<Judgement<G::Move>>],
@@ -75,28 +75,6 @@ fn parts_of<G: Game>(
         let part = part_of(alloc, game, &answers[role], is_retired, moves)?;
         parts.push(part)?;
     }
-    Ok(parts)
-}
-
-/// Each role's part of the turn. `judged` is the part of `role`, which answered last.
-pub fn parts_with<G: Game>(
-    alloc: Global,
-    game: &G,
-    answers: &[Option<Judgement<G::Move>>],
-    strikes: &[RoleStrikes],
-    legal: &[RoleMoves<G::Move>],
-    role: usize,
-    judged: Judgement<G::Move>,
-) -> Result<Vec<Option<Judgement<G::Move>>>, AllocError>
-    requires answers { AreMoves (G.rules game.now) answers.now }
-    requires strikes { length strikes.now ≡ length answers.now }
-    requires one_list { length legal.now ≡ length answers.now }
-    requires legal { All (λ l. All (λ m. (G.rules game.now).IsMove m) l) legal.now }
-    requires role { role < length answers.now }
-    ensures { IfOk result (λ v. v.items ≡ slice_set (of_each_role (length answers.now) (kept_part answers.now strikes.now legal.now)) role (Some judged)) }
-{
-    let mut parts = parts_of(alloc, game, answers, strikes, legal)?;
-    parts[role] = Some(judged);
     Ok(parts)
 }
 

@@ -119,6 +119,13 @@ fn seconds_for(brief: &SharedBrief<'_>, owed: &Owed) -> u32
     }
 }
 
+/// A message that the match owes to a role, and the round that the answer is for.
+#[derive(Drop)]
+struct OwedMessage {
+    round: u64,
+    owed: Owed,
+}
+
 /// Sends the player the owed message, and gives the desk the player's answer.
 fn hand_over<W: Wire<Call = Call, Reply = Reply>, P: Player>(
     alloc: Global,
@@ -126,23 +133,22 @@ fn hand_over<W: Wire<Call = Call, Reply = Reply>, P: Player>(
     player: &mut P,
     brief: &SharedBrief<'_>,
     role: usize,
-    round: u64,
-    owed: Owed,
+    due: OwedMessage,
 ) -> Result<(), AttendFault>
     requires { role < length brief.now.roles }
     ensures line { W.same_line wire.old wire.new }
     ensures told { OnOk result ((answer : Answer) × (reply : Reply) × (answer_fault reply ≡ None)
         × Tells (telling (W.calls wire.old) (W.replies wire.old) (P.handed player.old))
         (telling (W.calls wire.new) (W.replies wire.new) (P.handed player.new))
-        (handing_over brief.now role round owed answer reply)) }
+        (handing_over brief.now role due.round due.owed answer reply)) }
     ensures fault { IfErr result (λ fault. (answer : Answer) × (reply : Reply) × (events : List Event)
-        × StopsAmid (handing_over brief.now role round owed answer reply) (answer_fault reply) fault events
+        × StopsAmid (handing_over brief.now role due.round due.owed answer reply) (answer_fault reply) fault events
         × Tells (telling (W.calls wire.old) (W.replies wire.old) (P.handed player.old))
         (telling (W.calls wire.new) (W.replies wire.new) (P.handed player.new)) events) }
 {
-    let message = shared_message(alloc, brief, role, &owed)?;
-    let answer = player.ask_shared(alloc, seconds_for(brief, &owed), &message)?;
-    give_back(alloc, wire, brief, role, round, answer)
+    let message = shared_message(alloc, brief, role, &due.owed)?;
+    let answer = player.ask_shared(alloc, seconds_for(brief, &due.owed), &message)?;
+    give_back(alloc, wire, brief, role, due.round, answer)
 }
 
 /// Attends one role of a match to its end, as `attend` does, with borrowed data.
@@ -161,7 +167,14 @@ pub fn attend_shared<W: Wire<Call = Call, Reply = Reply>, P: Player>(
     for _ in 0..tries {
         match next_due(alloc, wire, brief, role)? {
             Due::Owe { round, owed } => {
-                hand_over(alloc, wire, player, brief, role, round, owed)?;
+                hand_over(
+                    alloc,
+                    wire,
+                    player,
+                    brief,
+                    role,
+                    OwedMessage { round, owed },
+                )?;
                 messages += 1;
             }
             Due::Hold { .. } => player.rest(),
