@@ -100,19 +100,26 @@ fn perform<G: Game + Drop, R: Read, W: Write>(
     }
 }
 
-/// Runs a command for this game. The input is the file that the request names, or else what the reader gives.
+/// A command on one game, with this game.
+#[derive(Drop)]
+struct LoadedRequest<'a, G> {
+    request: GameRequest<'a>,
+    game: G,
+}
+
+/// Runs a command for its game. The input is the file that the request names, or else the reader.
 fn perform_on<F: Files, G: Game + Drop, R: Read, W: Write>(
     files: &F,
     alloc: Global,
-    request: GameRequest<'_>,
-    game: G,
+    loaded: LoadedRequest<'_, G>,
     reader: &mut Counted<R>,
     writer: &mut Counted<W>,
     evidence: &mut Evidence,
 ) -> Result<(), Fault>
-    ensures answers { OnOk result (AnswersInput R.remaining F.File.remaining W.contents G.rules game request.entry reader.old reader.new writer.old writer.new) }
-    ensures fails { IfErr result (λ fault. FailsInput R.remaining F.File.remaining W.contents G.rules game request.entry fault reader.old reader.new writer.old writer.new) }
+    ensures answers { OnOk result (AnswersInput R.remaining F.File.remaining W.contents G.rules loaded.entry.game loaded.entry.request reader.old reader.new writer.old writer.new) }
+    ensures fails { IfErr result (λ fault. FailsInput R.remaining F.File.remaining W.contents G.rules loaded.entry.game loaded.entry.request fault reader.old reader.new writer.old writer.new) }
 {
+    let LoadedRequest { request, game } = loaded;
     let Some(path) = request.task.file else {
         return perform(alloc, request, game, reader, writer, evidence);
     };
@@ -141,12 +148,16 @@ pub fn for_game<F: Files, R: Read, W: Write>(
             let Some(game) = Countdown::new(size) else {
                 return Err(Fault::WrongUse);
             };
-            perform_on(files, alloc, request, game, reader, writer, evidence)
+            let loaded = LoadedRequest { request, game };
+            perform_on(files, alloc, loaded, reader, writer, evidence)
         }
         GameSource::Described(rules, limits) => {
             let text = rules_text(files, alloc, limits, rules)?;
             match game_of(alloc, limits, &text, evidence) {
-                Ok(game) => perform_on(files, alloc, request, game, reader, writer, evidence),
+                Ok(game) => {
+                    let loaded = LoadedRequest { request, game };
+                    perform_on(files, alloc, loaded, reader, writer, evidence)
+                }
                 Err(fault) => Err(fault),
             }
         }
