@@ -100,7 +100,7 @@ fn perform<G: Game + Drop, R: Read, W: Write>(
     }
 }
 
-/// A command on one game, with this game.
+/// A command and the game on which it runs.
 #[derive(Drop)]
 struct LoadedRequest<'a, G> {
     request: GameRequest<'a>,
