@@ -32,7 +32,7 @@ public class Player {
     /** Returns the answer to a message, or null for a message that does not come from the match's referee. */
     static String answer(String message, String receiver, InetAddress sender) {
         String[] words = message.strip().split("[\\s()]+", 4); // an empty text, the keyword, the id, the rest
-        if (words[1].equalsIgnoreCase("INFO")) return "available"; // YOURS: `busy` during a match
+        if (words[1].equalsIgnoreCase("INFO")) return "available"; // YOURS: perhaps `busy` during a match
         String key = words[2] + " " + receiver;
         Match match = matches.get(key);
         // YOURS: compare the sender with the IP addresses that the organiser names, and forget matches that got no STOP.
