@@ -3,6 +3,7 @@
 import json
 from unittest.mock import patch
 
+from ggp_tools.competition.live import Reader
 from ggp_tools.competition.pages import Pages
 from ggp_tools.records import show
 from browser import Browser
@@ -18,7 +19,7 @@ class Narrow(Served):
     def setUp(self):
         super().setUp()
         plan = plan_in(str(self.plan.folder.path), NAMES)
-        self.site.begin(plan)
+        self.site.begin(Reader(plan, self.site.referee, self.site.delay))
         self.plan, self.site.read_plan = plan, lambda: plan
         match, other = plan.matches[:2]
         begin(plan, match, started(match) + "".join(line(match, role, 2, f"(PLAY {match.id} NIL)", MOVE) for role in (0, 1)))

@@ -90,11 +90,17 @@ def test_different_players_get_different_processors(monkeypatch):
     there = sorted(os.sched_getaffinity(0))
     found = []
     monkeypatch.setattr(os, "sched_setaffinity", lambda process, processors: found.append(processors))
-    for number in range(len(there) + 1):
-        job.limit(0, 1, number)
+    for first in range(len(there) + 1):
+        job.limit(0, 1, first)
     job.limit(0, 4_096, 0)
     job.limit(0, 0, 0)
     assert found == [*([processor] for processor in (*there, there[0])), there]
+
+
+def test_players_with_different_numbers_of_processors_share_none(tmp_path):
+    players = [Player(name, "", 1, 1, command("", processors=count)) for name, count in (("ann", 4), ("bob", 0), ("cid", 1), ("dan", 2))]
+    started = StartedPlayers(Folder(tmp_path), types.SimpleNamespace(players=players), None, Reports())
+    assert [started.players[player.name].first_processor for player in players] == [0, 4, 4, 5]
 
 
 @pytest.mark.parametrize(("restart", "is_new"), [("when_dead", False), ("never", False), ("each_match", True)])
@@ -250,7 +256,7 @@ async def take(data):
 
 async def play():
     job = Job(take, take)
-    limits = {"memory": 0, "processors": 0, "number": 0}
+    limits = {"memory": 0, "processors": 0, "first_processor": 0}
     words = ["sh", "-c", "setsid sleep 600 & echo $!; (setsid env -i sleep 600 & echo $!); echo $$; exec sleep 600"]
     job.start([], {"words": words, "player": {"host": "", "port": 0, "environment": {}, "directory": "/", **limits}})
     await job.running

@@ -52,14 +52,14 @@ def bounded(memory: int) -> list[str]:
     return []
 
 
-def limit(memory: int, processors: int, number: int) -> None:
-    """Limits this process and the processes that it starts: the memory of each one, and the processors of all together. Different players
-    get different processors if there are enough."""
+def limit(memory: int, processors: int, first: int) -> None:
+    """Limits this process and the processes that it starts: the memory of each one, and the processors of all together. `first` is the number of
+    processors that other players get before this one, so different players get different processors if there are enough."""
     if memory:
         resource.setrlimit(resource.RLIMIT_DATA, (memory, memory))
     allowed = sorted(os.sched_getaffinity(0))
     if count := min(processors, len(allowed)):
-        os.sched_setaffinity(0, [allowed[(number * count + at) % len(allowed)] for at in range(count)])
+        os.sched_setaffinity(0, [allowed[(first + at) % len(allowed)] for at in range(count)])
 
 
 def children() -> list[int]:
@@ -102,7 +102,7 @@ class Job:
             LIBRARY.prctl(ADOPT_ORPHANS, 1)
             self.is_player, port = True, str(free_port(player["port"]))
             environment = {name: value.replace(PORT, port) for name, value in player["environment"].items()}
-            limits = player["memory"], player["processors"], player["number"]
+            limits = player["memory"], player["processors"], player["first_processor"]
             words = [*bounded(player["memory"]), *(word.replace(PORT, port) for word in words)]
             more = {"stdout": subprocess.PIPE, "stderr": subprocess.STDOUT, "cwd": player["directory"], "env": {**os.environ, **environment}}
 

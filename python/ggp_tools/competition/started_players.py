@@ -2,6 +2,7 @@
 
 import asyncio
 import contextlib
+import itertools
 import os
 import pathlib
 import shutil
@@ -76,8 +77,8 @@ class PlayerLog:
 class StartedPlayer:
     """A player with a command. `matches` are the matches that it is playing."""
 
-    def __init__(self, folder: Folder, player: Player, number: int, referee: Referee, reporter: Reporter) -> None:
-        self.folder, self.name, self.command, self.number = folder, player.name, player.command, number
+    def __init__(self, folder: Folder, player: Player, first_processor: int, referee: Referee, reporter: Reporter) -> None:
+        self.folder, self.name, self.command, self.first_processor = folder, player.name, player.command, first_processor
         self.referee, self.reporter, self.log = referee, reporter, PlayerLog(folder.players / f"{player.name}.log")
         self.job, self.address, self.port, self.was_started, self.has_answered = None, NOWHERE, 0, False, False
         self.lock, self.matches, self.reported_lines = asyncio.Lock(), set(), []
@@ -139,7 +140,8 @@ class StartedPlayer:
         job = self.job = Job(self.log.take, self.log.take, command.queue_seconds, END_SECONDS)
         job.start(launcher, {"words": [program_of(self.folder, self.command.words[0]), *command.words[1:]], "player": {
             "host": None if launcher else HERE, "port": self.port, "environment": dict(command.environment),
-            "directory": str(self.folder.path.absolute() / command.directory), "memory": command.memory, "processors": command.processors, "number": self.number,
+            "directory": str(self.folder.path.absolute() / command.directory), "memory": command.memory, "processors": command.processors,
+            "first_processor": self.first_processor,
         }})
         if await job.reports(job.runs) and (why := await self.answers(job)) is not None:
             return why
@@ -216,7 +218,8 @@ class StartedPlayers:
         # The addresses of the other players. They are looked up once, and stay the same in all matches.
         self.addresses: dict[str, str] = {}
         players = [player for player in competition.players if player.command]
-        self.players = {player.name: StartedPlayer(folder, player, number, referee, reporter) for number, player in enumerate(players)}
+        firsts = itertools.accumulate((player.command.processors for player in players), initial=0)
+        self.players = {player.name: StartedPlayer(folder, player, first, referee, reporter) for player, first in zip(players, firsts)}
         comparing = asyncio.Lock()
         for player in self.players.values():
             player.known, player.comparing = self.known, comparing
