@@ -10,7 +10,7 @@ from unittest.mock import patch
 
 from ggp_tools import match_log
 from ggp_tools.match_log import (
-    MOST_MS, MOST_NUMBER, NAMES, End, Event, Host, Message, Open, Other, event_of, events, last_run, line_of, text_of, whole_lines,
+    MOST_MS, MOST_NUMBER, NAMES, End, Event, Host, Message, Open, Other, event_of, events, last_run, line_of, text_of, values_of, whole_lines,
 )
 from hypothesis import given
 from hypothesis import strategies as st
@@ -42,6 +42,13 @@ class Lines(unittest.TestCase):
         self.assertEqual({type(event) for event in (MESSAGE, *OTHERS)}, {*NAMES, Other})
         for event in (MESSAGE, MISSED, *OTHERS):
             self.assertEqual(event_of(line_of(event)), event)
+
+    def test_the_documents_show_each_event_as_it_is_written(self):
+        rows = [row.strip() for name in ("COMMANDS.md", "COMPETITION.md") for row in (TOP / "docs" / name).read_bytes().splitlines()]
+        rows = [row for row in rows if row.startswith(b'{"event":')]
+        for row in rows:
+            self.assertEqual(line_of(event_of(row)), row + b"\n")
+        self.assertEqual({json.loads(row)["event"] for row in rows}, {values_of(event)[0] for event in (MESSAGE, *OTHERS)})
 
     @given(TEXTS, TEXTS)
     def test_texts_are_any_bytes(self, message: str, answer: str):
