@@ -123,7 +123,7 @@ class Examples(InFolder):
 
     def test_a_match_of_no_game(self):
         file = self.folder / "game.kif"
-        faults = [(None, "can't be read: No such file or directory"), *((text, "is not a ground description") for text in (b"", b"\xff", b"(role a))", b"()", b"(role)", b"(init x)"))]
+        faults = [(None, "can't be read: No such file or directory"), *((text, "is not a ground GDL file") for text in (b"", b"\xff", b"(role a))", b"()", b"(role)", b"(init x)"))]
         for text, words in faults:
             if text is not None:
                 file.write_bytes(text)
