@@ -185,7 +185,7 @@ class LiveBoard:
         return "".join(f"next {self.match.id} {role}\n" for role in range(len(self.match.players))).encode()
 
     def call(self, role: int, at: int, answer: str | None, missed: str) -> bytes:
-        """Returns the row of a script in which a role answers in a round, or misses its answer."""
+        """Returns the row of a script that makes a role answer in a round, or miss its answer."""
         where = f"{self.match.id} {role} {at} ".encode()
         return b"miss " + where + missed.encode() + b"\n" if answer is None else b"submit " + where + text_in_line(answer) + b"\n"
 
