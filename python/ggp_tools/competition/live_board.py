@@ -46,8 +46,8 @@ def round_of(phase: str, moves: list) -> int:
 
 @dataclass(frozen=True)
 class Position:
-    """How far a match has got: the phase, the roles that owe an answer in the open round, and what is recorded. It keeps only the first and the last
-    states, but `movers` has the role whose turn it is in every state."""
+    """How far a match has got: the phase, the roles that owe an answer in the open round, and the recorded states, moves and errors. It keeps only
+    the first and the last states, but `movers` has the role whose turn it is in every state."""
 
     phase: str = "starting"
     owing: frozenset[int] = frozenset()

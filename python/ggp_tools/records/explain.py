@@ -1,4 +1,4 @@
-"""Explains why a record is not lawful: what was expected, and what was found."""
+"""Explains why a record is not lawful: prints the expected and the found values."""
 
 import argparse
 import contextlib
