@@ -1,5 +1,5 @@
 """A server that answers the calls of `bench/service`, written with asyncio and Python objects. The server in service.rs answers
-the calls in the same way. The server prints the address on which it listens."""
+the calls in the same way. The server prints its address."""
 
 import asyncio
 

@@ -1,6 +1,6 @@
 //! A plain server of the calls that `bench/service` makes, and the client that makes them.
 //!
-//!     service serve                                       prints the address at which it listens on 127.0.0.1
+//!     service serve                                       listens on 127.0.0.1 and prints the address
 //!     service ask ADDRESS one|all CALLS REPLIES COUNT     prints the seconds of COUNT connections
 //!
 //! The server has a thread for each connection, and a table of matches of Countdown from 100 behind a mutex. It knows `open`, `next`, `submit` and

@@ -74,7 +74,7 @@ def load(is_busy: bool) -> Iterator[None]:
 
 
 def counted(turns: int, roles: int = 2) -> str:
-    """Returns the rules of a game of this many turns in which each role has one move."""
+    """Returns the rules of a game of this many turns where each role has one move."""
     lines = [f"(role r{k}) (legal r{k} go) (goal r{k} 50)" for k in range(roles)]
     lines += [f"(<= (next {k + 1}) (true {k}))" for k in range(turns)]
     return "\n".join(["(init 0)", *lines, f"(<= terminal (true {turns}))"])

@@ -44,7 +44,7 @@ class Counts:
 
 def counts_in(last_line: str, is_well: bool) -> Counts:
     """Returns the counts in the last line of a command: `N passed`, `N failed`, `N errors` and `N skipped`. A command without such a line
-    counts as one test. If the exit status of a command is not 0, the command has failed, whatever it prints."""
+    counts as one test. If the exit status of a command is not 0, the command has failed, regardless of its output."""
     numbers = {word.removesuffix("s"): int(number) for number, word in COUNTED.findall(last_line)}
     if is_well:
         # A test may also state the number of its errors.

@@ -81,7 +81,7 @@ def is_word(node: ast.AST) -> bool:
 
 
 def with_item(node: ast.AST, field: str, index: int, item: ast.AST) -> ast.AST:
-    """Returns a copy of a node in which one element of a list is replaced."""
+    """Returns a copy of a node with one element of a list replaced."""
     new = copy.deepcopy(node)
     getattr(new, field)[index] = item
     return new

@@ -8,7 +8,7 @@ import subprocess
 import sys
 
 PYTHON = (3, 11)
-# The versions of the toolchain with which the gate has passed.
+# The versions of the toolchain that have passed the gate.
 TOOLCHAINS = ("rattle-kit-13b", "rattle-kit-13f")
 WHAT_TO_DO = (
     "ask the person who gave you this repository for it (it is not public yet), unpack it, "
@@ -56,7 +56,7 @@ def require_toolchain():
 
 
 def load_rt():
-    """Loads the command `rt` as a module, to call functions for which the command has no option."""
+    """Loads the command `rt` as a module, to call functions that the command has no option for."""
     loader = importlib.machinery.SourceFileLoader("rt_command", os.path.realpath(shutil.which("rt")))
     rt = importlib.util.module_from_spec(importlib.util.spec_from_loader("rt_command", loader))
     loader.exec_module(rt)

@@ -36,7 +36,7 @@ class Need:
 
 NEEDS = (
     Need("gringo", ("gringo",), "grounds games with variables"),
-    Need("slurm-wlm", ("slurmctld", "slurmd", "srun", "sinfo"), "runs the cluster on which tests play a competition"),
+    Need("slurm-wlm", ("slurmctld", "slurmd", "srun", "sinfo"), "runs the cluster where tests play a competition"),
     Need("munge", ("munged",), "authenticates the nodes of this cluster to one another"),
     Need("iproute2", ("ip",), "makes networks for players and referees"),
     Need("nftables", ("nft",), "makes firewalls for a player and the referee"),
@@ -53,7 +53,7 @@ NEEDS = (
     Need("python3-pytest-xdist", (f"{MODULES}/xdist",), "runs the Python tests in parallel"),
     Need("python3-pytest-timeout", (f"{MODULES}/pytest_timeout.py",), "ends a Python test that hangs"),
     Need("python3-hypothesis", (f"{MODULES}/hypothesis",), "makes random input for Python tests"),
-    Need("dpkg", ("dpkg-query",), "lists the packages of the system in which the archive is tested"),
+    Need("dpkg", ("dpkg-query",), "lists the packages of the system where the archive is tested"),
     Need("git", ("git",), "lists the files of the archive"),
     Need("chromium", ("chromium",), "shows pages as people see them"),
     Need("groff-base", ("groff",), "formats the pages of the manual"),

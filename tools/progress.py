@@ -23,7 +23,7 @@ def by_megabytes(names: list[str], megabytes: dict[str, int]) -> dict[str, float
 
 
 class Progress:
-    """Pieces of work, of which up to `lanes` run in parallel. `seconds` has the expected time of each. As soon as one of them has ended,
+    """Pieces of work. Up to `lanes` of them run in parallel. `seconds` has the expected time of each. As soon as one of them has ended,
     only the proportions between these times matter."""
 
     def __init__(self, seconds: dict[str, float], lanes: int) -> None:

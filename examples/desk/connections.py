@@ -4,7 +4,7 @@
 
     connections.py ADDRESS RULES [MATCHES]
 
-ADDRESS is the address of the desk, for example 127.0.0.1:9000. RULES is a file with the ground description of its game. The players are
+ADDRESS is the address of the desk, for example 127.0.0.1:9000. RULES is a ground GDL file with the rules of its game. The players are
 those of examples/players/player.py. Each connection has one match at a time."""
 
 import argparse

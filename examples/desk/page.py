@@ -1,5 +1,5 @@
 #!/usr/bin/env python3
-"""A web page on which two people play tic-tac-toe against each other. A listening desk keeps the matches and judges each move.
+"""A web page where two people play tic-tac-toe against each other. A listening desk keeps the matches and judges each move.
 
     page.py ADDRESS PORT
 

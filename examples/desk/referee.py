@@ -3,7 +3,7 @@
 
     referee.py RULES [MATCHES]
 
-RULES is a file with a ground description. The players are those of examples/players/player.py. The desk judges each move, computes the states and
+RULES is a ground GDL file. The players are those of examples/players/player.py. The desk judges each move, computes the states and
 writes the records.
 """
 

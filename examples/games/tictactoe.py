@@ -1,5 +1,5 @@
 #!/usr/bin/env python3
-"""Writes tic-tac-toe as a ground description, with a copy of each rule for each cell, mark and row.
+"""Writes tic-tac-toe in ground GDL, with a copy of each rule for each cell, mark and row.
 
 tictactoe.py           prints it
 tictactoe.py --check   exits with status 1 if tictactoe.kif differs from it

@@ -92,5 +92,5 @@ class Player(BaseHTTPRequestHandler):
 
 
 parser = argparse.ArgumentParser(description=__doc__)
-parser.add_argument("port", metavar="PORT", type=int, help="the port of 127.0.0.1 on which it listens")
+parser.add_argument("port", metavar="PORT", type=int, help="the port of 127.0.0.1 where the player listens")
 HTTPServer(("127.0.0.1", parser.parse_args().port), Player).serve_forever()

@@ -1,5 +1,5 @@
 #!/usr/bin/env python3
-"""An example player that plays random legal moves over HTTP, even for descriptions with variables.
+"""An example player that plays random legal moves over HTTP, even for GDL files with variables.
 
     interpreting.py PORT [SEED | first]
 

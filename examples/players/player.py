@@ -1,5 +1,5 @@
 #!/usr/bin/env python3
-"""An example player that plays random legal moves over HTTP, for ground descriptions.
+"""An example player that plays random legal moves over HTTP, for ground GDL.
 
     player.py PORT [SEED]
 
@@ -68,7 +68,7 @@ def show(expression):
 
 
 class Game:
-    """The game of a ground description."""
+    """The game that ground GDL rules define."""
 
     def __init__(self, sentences):
         self.bodies = {}
@@ -135,7 +135,7 @@ class Seat:
     role: object
     game: Game
     state: set
-    # The longer of the two clocks, and the time by which the next message must have arrived.
+    # The longer of the two clocks, and the deadline for the next message.
     clock: int
     expected: float = 0.0
 
@@ -177,7 +177,7 @@ class Player:
 
 
 def is_waiting(stream):
-    """Returns whether a stream is not ready for writing, for example because it is a full pipe that nobody reads."""
+    """Returns whether a stream is not ready for writing, for example because it is a full pipe without a reader."""
     try:
         return not select.select([], [stream], [], 0)[1]
     except (OSError, ValueError):
@@ -186,7 +186,7 @@ def is_waiting(stream):
 
 def say(text):
     """Prints a line on standard error at once, because other players may print there too. Anyone can send a message, so only visible
-    characters are printed. If nobody reads the output, the line is dropped."""
+    characters are printed. If the output has no reader, drops the line."""
     seen = "".join(character if " " <= character <= "~" or character == "\n" else "?" for character in text[-MOST_SAID:])
     try:
         if sys.stderr and not is_waiting(sys.stderr):
@@ -219,7 +219,7 @@ class Handler(BaseHTTPRequestHandler):
 
 class Server(ThreadingHTTPServer):
     """Reads each message in a separate thread, so that a slow connection does not block others. One thread answers all messages in the
-    order in which they came. The next message may come before a late answer is ready."""
+    order of their arrival. The next message may come before a late answer is ready."""
 
     # The maximum number of waiting connections.
     request_queue_size = 128

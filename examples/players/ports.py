@@ -3,7 +3,7 @@
 
     ports.py RULES-FILE
 
-prints a free port for each role of a ground description.
+prints a free port for each role of a ground GDL file.
 """
 
 import argparse
@@ -35,7 +35,7 @@ def free_ports(count):
 
 
 def roles_of(file: str) -> list:
-    """Returns the roles of a game, or an empty list if the file is not a ground description."""
+    """Returns the roles of the game in this file, or an empty list if it is not a ground GDL file."""
     try:
         with open(file, encoding="ascii") as rules:
             return Game(read(rules.read())).roles
@@ -51,7 +51,7 @@ def main() -> None:
     file = words.parse_args().rules
     roles = roles_of(file)
     if not roles:
-        sys.exit(f"play-a-match: {file} is not a ground description")
+        sys.exit(f"play-a-match: {file} is not a ground GDL file")
     print(*free_ports(len(roles)))
 
 

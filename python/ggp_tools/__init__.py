@@ -1,5 +1,5 @@
 """The Python tools around the referee `ggp_manager`: they ground games, run competitions, and show, explain and check records. Pages need jinja2.
-Live pages also need aiohttp, and descriptions with variables need the grounder gringo. Everything else needs only the standard library."""
+Live pages also need aiohttp, and GDL files with variables need the grounder gringo. Everything else needs only the standard library."""
 
 import os
 import sys

@@ -77,7 +77,7 @@ class Illegal:
             return []
 
     def moves(self, role: int, turn: int, error: str) -> str:
-        """For an illegal move, describes the legal moves of its turn, and says for which roles, or in which turn, the move would be legal.
+        """For an illegal move, describes the legal moves of its turn, and names the roles, or the turn, where the move would be legal.
         For other errors, or if the interpreter cannot compute the legal moves, the text is empty."""
         legal = self.legal(role, turn) if error.startswith("IL ") and error != "IL ?" else []
         if not legal:

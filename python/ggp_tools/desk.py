@@ -111,7 +111,7 @@ class Connection:
 
 class Desk:
     """A desk for one game. `with` starts the program of the desk, and ends it. `options` are those of the command `desk`, for example
-    `--countdown=3`. At the end of `with`, `records` has the record of each match, in the order in which the matches were opened.
+    `--countdown=3`. At the end of `with`, `records` has the record of each match, in the order of opening.
     `Desk.connect` returns a desk that many clients share.
 
     The methods block, and threads may share a desk. In asyncio, use `async with` and call `await asyncio.to_thread(desk.next, "m1", 0)`."""

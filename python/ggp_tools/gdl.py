@@ -174,7 +174,7 @@ def rules_of(number: int, sentence: Expression, names: Iterator[str]) -> list[Ru
 
 
 def lines_of(text: str) -> list[int]:
-    """Returns the line on which each sentence of a text begins, counted from 1."""
+    """Returns the line where each sentence of a text begins, counted from 1."""
     counts = (text.count("\n", last, index) for last, index in itertools.pairwise([0, *starts(text)]))
     return [1 + count for count in itertools.accumulate(counts)]
 
@@ -199,7 +199,7 @@ def all_rules(sentences: Sequence[Expression], of_one: Callable = rules_of) -> l
 
 def refuse_dependence(asks: Mapping[Relation, Iterable[Relation]], source: Callable[[Relation, Relation], int]) -> None:
     """Refuses the dependencies that the referee refuses: `legal`, `goal` and `terminal` must not depend on moves, and `role` and `init`
-    must not depend on a state or moves. `source` returns the sentence in which one relation uses another."""
+    must not depend on a state or moves. `source` returns the sentence where one relation uses another."""
     moving, fixed = "let `next` record what the moves did, and read that with `true`", "it must be known before the first state"
     first = [("init", ["true", "does"], fixed), ("role", ["true", "does"], fixed)]
     for name, others, advice in [("legal", ["does"], moving), ("goal", ["does"], moving), ("terminal", ["does"], moving), *first]:
@@ -229,7 +229,7 @@ def way_to(head: Relation, last: Relation, asks: Mapping[Relation, Iterable[Rela
 
 
 def reached(asks: Mapping[Relation, Iterable[Relation]], relations: Iterable[Relation]) -> set[Relation]:
-    """Returns all relations on which `relations` depend, directly or indirectly. `asks` has the direct dependencies."""
+    """Returns all relations that `relations` depend on, directly or indirectly. `asks` has the direct dependencies."""
     result, left = set(), list(relations)
     while left:
         for asked in asks.get(left.pop(), ()):
@@ -240,8 +240,8 @@ def reached(asks: Mapping[Relation, Iterable[Relation]], relations: Iterable[Rel
 
 
 def components(graph: Mapping[Expression, Iterable[Expression]]) -> list[list[Expression]]:
-    """Returns the strongly connected components of a graph, each as a list. Each component comes after the components to which it has
-    edges."""
+    """Returns the strongly connected components of a graph, each as a list. Each component comes after the components that it has
+    edges to."""
     # Tarjan's algorithm without recursion. The index of a node is its position on the stack. Nodes of finished components have a higher
     # index.
     lows, stack, components_found = {}, [], []
@@ -294,7 +294,7 @@ class Relations:
         return first | reached(asked_by, first)
 
     def bearing(self) -> set[Relation]:
-        """Returns the relations that define the game, and all relations on which those relations depend."""
+        """Returns the relations that define the game, and all relations that those relations depend on."""
         own = [(name, ARITIES[name]) for name in GAME]
         return {*own, ("true", 1), ("does", 2), *reached(self.asks, own)}
 

@@ -94,7 +94,7 @@ def has_variables(text: str) -> bool:
 
 
 def starts(text: str, most_levels: float = math.inf, takes_bytes: bool = False) -> list[int]:
-    """Returns the index at which each expression of a text begins."""
+    """Returns the index where each expression of a text begins."""
     return [index for token, index, around in tokens(text, most_levels, takes_bytes) if not around and token != ")"]
 
 
@@ -159,7 +159,7 @@ def put(term: Expression, values: dict[str, Expression]) -> Expression:
 
 
 def place(expression: Expression) -> tuple:
-    """Returns the key by which the output sorts expressions."""
+    """Returns the key that sorts the expressions of the output."""
     if isinstance(expression, str):
         digits = expression.lstrip("0")
         return (0, len(digits), digits, expression) if expression.isdigit() else (1, expression)

@@ -38,7 +38,7 @@ class NoReferee(Exception):
 
 
 class BadRules(Exception):
-    """The reason why the referee refuses a ground description, and the place of the error."""
+    """The reason why the referee refuses a ground GDL file, and the place of the error."""
 
 
 class Unchecked(Exception):
@@ -130,8 +130,7 @@ class Referee:
         return run.stdout.decode("ascii").strip()
 
     def roles(self, rules: bytes, name: object) -> tuple[str, ...]:
-        """Returns the names of the roles of a ground description. Raises `BadRules` if the description is invalid; the message calls it
-        `name`."""
+        """Returns the names of the roles of a ground GDL text. Raises `BadRules` if the text is invalid; the message calls it `name`."""
         with rules_file(rules) as path:
             self.check_rules(path, name)
         facts = map(head_of, expressions(rules.decode("latin-1")))
@@ -164,7 +163,7 @@ class Referee:
         return [line.decode("ascii", "replace") for line in run.stdout.splitlines() if not line.startswith(b"{")], records[0]
 
     def check_rules(self, rules_path: pathlib.Path | str, name: object = None) -> None:
-        """Refuses a file that is not a ground description. If the path is temporary, error messages use `name` instead."""
+        """Refuses a file that is not ground GDL. If the path is temporary, error messages use `name` instead."""
         run = self.call("verify", "--lines", JSON, *self.rules_words(rules_path))
         last = last_line(run)
         if last.startswith(TOO_LONG):
@@ -184,7 +183,7 @@ class Referee:
         return verdicts
 
     def replays(self, rules_path: pathlib.Path | str, accounts: Sequence[bytes], records: Sequence[bytes]) -> list[bool]:
-        """Returns for each call log whether its calls reproduce its record. `replay` stops at the first call log that does not, so this
+        """Returns whether the calls of each call log reproduce its record. `replay` stops at the first call log that does not, so this
         method runs `replay` again for the remaining ones. The line `{` before each call log ends the previous one."""
         results = []
         while len(results) < len(accounts):

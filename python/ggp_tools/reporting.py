@@ -24,7 +24,7 @@ def spell(seconds: float) -> str:
 
 
 class Journal:
-    """A file to which timestamped lines are appended. The file is opened when the first line is written. If the file ends with an
+    """A file of timestamped lines. `Journal` appends to it. The file is opened when the first line is written. If the file ends with an
     incomplete line, a line break is added first."""
 
     def __init__(self, path: pathlib.Path) -> None:

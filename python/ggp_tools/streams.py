@@ -102,7 +102,7 @@ def report(text: str) -> None:
 
 
 def error_words(why: OSError) -> str:
-    """Returns the message of an error, after the name of the file if there is one."""
+    """Returns an error message, after the name of the file if there is one."""
     return f"{why.filename}: {why.strerror}" if why.filename else str(why.strerror or why)
 
 

@@ -49,7 +49,7 @@ def one_for(client: str, connections: Collection[Connection]) -> Connection | No
 
 
 class Visitors:
-    """The open connections, of which there are at most `most`. One client may have an eighth of them, but this computer may have all, because
+    """At most `most` open connections. One client may have an eighth of them, but this computer may have all, because
     it may run a proxy. Unless `spares_busy` is set, a connection whose request has arrived may also be closed in favour of another. Threads
     may share this object."""
 

@@ -43,7 +43,7 @@ def with_values(term, values):
 
 
 def fitted(pattern, term, values):
-    """Returns the values of the variables for which the pattern equals the term, or None. The term has no variables."""
+    """Returns the values of the variables that make the pattern equal to the term, or None. The term has no variables."""
     if isinstance(pattern, str):
         if pattern[0] != "?":
             return values if pattern == term else None
@@ -209,7 +209,7 @@ class Look:
                         yield answer
 
     def all_values(self, body, values):
-        """Yields the values of the variables for which all literals of a body are true. A negation is evaluated when all its variables have
+        """Yields the values of the variables that make all literals of a body true. A negation is evaluated when all its variables have
         values."""
         if not body:
             yield values
@@ -238,7 +238,7 @@ class Look:
 
 
 def grouped(asks):
-    """Groups the relations that have rules by mutual dependence. Each group comes after the groups on which it depends."""
+    """Groups the relations that have rules by mutual dependence. Each group comes after the groups that it depends on."""
     # This is Tarjan's algorithm, with a list of open nodes instead of recursion, because a chain may be long.
     groups, places, lowest, path, done = [], {}, {}, [], set()
     for first in asks:

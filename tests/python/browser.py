@@ -11,7 +11,7 @@ import time
 import types
 import typing
 
-# The seconds after which a test gives up waiting for an answer or a change.
+# The seconds until a test gives up waiting for an answer or a change.
 HANGS = 900
 # The browser shows only pages of the tests, so it needs no sandbox. On some systems a sandbox is not possible.
 WORDS = (

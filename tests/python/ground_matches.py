@@ -23,7 +23,7 @@ def description(name: str) -> str:
 
 
 def instantiated(text: str, how: str = making.WHERE_NEEDED, is_split: bool = False) -> Sentences:
-    """Returns the ground sentences of a description with variables."""
+    """Returns the ground sentences of a GDL text with variables."""
     with contextlib.redirect_stderr(io.StringIO()):
         return expressions(making.Making(text, 60, how, is_split).run())
 

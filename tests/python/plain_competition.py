@@ -5,7 +5,7 @@ from fractions import Fraction
 
 
 def strikes_out(record, seat):
-    """Returns the turn in which the player of a role was retired, counted from 1, or None."""
+    """Returns the turn when the player of a role was retired, counted from 1, or None."""
     need = record["strikes"]
     for turn in range(need, len(record["errors"]) + 1):
         if need and all(record["errors"][earlier][seat] != "" for earlier in range(turn - need, turn)):

@@ -1,4 +1,4 @@
-"""Random small descriptions with variables. Each has facts, recursive relations, states with nested terms, moves, and nested negations and
+"""Random small GDL texts with variables. Each has facts, recursive relations, states with nested terms, moves, and nested negations and
 `or`s. Each description is grounded in four forms, which must describe the same game. Three matches are played with one form. With the other
 forms, the same answers must give the same records. Each record is checked against the description."""
 

@@ -14,7 +14,7 @@ from support import call, toml
 BROADCAST = "the system refuses connections to it, for example because it is a broadcast address"
 MULTICAST = "a multicast address accepts no connection"
 LINK_LOCAL = "a link-local address needs its interface, for example [fe80::1%eth0]"
-# Addresses to which no operating system connects.
+# Addresses that no operating system connects to.
 NO_HOSTS = [
     ("255.255.255.255", BROADCAST), ("127.255.255.255", BROADCAST), ("[::ffff:255.255.255.255]", BROADCAST), ("224.0.0.1", MULTICAST),
     ("239.255.255.255", MULTICAST), ("[ff02::1]", MULTICAST), ("[::ffff:224.0.0.1]", MULTICAST), ("[fe80::1]", LINK_LOCAL),

@@ -111,7 +111,7 @@ SPOILINGS = {
     "a log tells of another player": (changed("cup/logs/cup-001.jsonl", lambda text: text.replace(b'"ann"', b'"cid"').replace(b'"bob"', b'"ann"')), " of its log does not agree with its call log"),
     "two logs are exchanged": (swapped("cup/logs/cup-001.jsonl", "cup/logs/cup-002.jsonl"), "cup-002: `publish` would leave out line 1 of its log, or write it differently"),
     "the rules are others": (changed("cup/rules/countdown.kif", lambda text: text.replace(b"100", b"90")), "rules/countdown.kif is not what"),
-    "a description and its sum are others": (nonsense, "games/odd.kif differs from the rules of odd; a description without variables must be equal to the rules"),
+    "a description and its sum are others": (nonsense, "games/odd.kif differs from the rules of odd; a ground GDL file must be equal to the rules"),
     "a description is missing": (without("cup/games/odd.kif"), "games/odd.kif is missing: it is the description of odd"),
     "the sums of the descriptions are missing": (without("cup/rules/DESCRIPTIONS.sha256"), "rules/DESCRIPTIONS.sha256 is missing: it has the checksums of the descriptions"),
     "there is a sum of another description": (changed("cup/rules/DESCRIPTIONS.sha256", lambda text: text + b"0" * 64 + b"  more.kif\n"), "has a checksum of more.kif, which is not a game"),

@@ -36,7 +36,7 @@ SIGNS = {"x": "\u2715", "o": "\u25ef", "b": "\u00b7"}
 
 
 class Hold:
-    """A turn of a match in which a player waits until it is released."""
+    """A turn of a match. A player waits until it is released."""
 
     def __init__(self) -> None:
         self.reached, self.let_go = threading.Event(), threading.Event()
@@ -135,7 +135,7 @@ class Demonstration(InFolder):
         self.await_turn(page, 3)
         self.assertIn("ann (xplayer), bob (oplayer)", page.value(f"{BOARD}.innerText"))
         self.assertRegex(page.value(f"document.getElementById('open-{FIRST}').innerText"), rf"ann, bob\s+3\s+xplayer to move: ann\s+{WHILE}")
-        # The page shows the state in which the player must move.
+        # The page shows the state where the player must move.
         terms = [example.show(term).strip("()").split() for term in self.players["ann"].matches[FIRST][2]]
         self.assertEqual(page.value(CELLS), {term[1] + term[2]: SIGNS[term[3]] for term in terms if term[0] == "cell"})
         page.screen(*PHONE)

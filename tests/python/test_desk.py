@@ -19,7 +19,7 @@ def countdown_desk(*options: str) -> Desk:
 
 
 def play_countdown(desk: Desk, match_id: str) -> list[object]:
-    """Plays a match in which each player takes one. Returns the messages that were due to role 0."""
+    """Plays a match where each player takes one. Returns the messages that were due to role 0."""
     desk.open(match_id, ["ann", "bob"])
     dues = []
     while dues[-1:] != [Over()]:

@@ -44,7 +44,7 @@ class Examples(InFolder):
     def test_help_of_instantiate(self):
         status, out, said = run(INSTANTIATE, "--help", env={**os.environ, "COLUMNS": "200"})
         self.assertEqual((status, said), (0, ""))
-        self.assertIn("\nReads the description of a game with variables, and writes a ground description", out)
+        self.assertIn("\nReads a GDL file with variables, and writes a ground GDL file", out)
         for option in ("FILE", "--seconds N", "--folded", "--unfolded", "--player-rules FILE"):
             self.assertRegex(out, rf"\n  {option} +[a-z]")
 
@@ -123,7 +123,7 @@ class Examples(InFolder):
 
     def test_a_match_of_no_game(self):
         file = self.folder / "game.kif"
-        faults = [(None, "can't be read: No such file or directory"), *((text, "is not a ground description") for text in (b"", b"\xff", b"(role a))", b"()", b"(role)", b"(init x)"))]
+        faults = [(None, "can't be read: No such file or directory"), *((text, "is not a ground GDL file") for text in (b"", b"\xff", b"(role a))", b"()", b"(role)", b"(init x)"))]
         for text, words in faults:
             if text is not None:
                 file.write_bytes(text)

@@ -1,4 +1,4 @@
-"""Formulas over ground sentences are equivalent to the expressions from which they are made, in each state and for all moves. The size of a formula
+"""Formulas over ground sentences are equivalent to the expressions that they are made from, in each state and for all moves. The size of a formula
 is the length of its text."""
 
 import itertools
@@ -41,7 +41,7 @@ class OfFormulas(unittest.TestCase):
         self.atoms = [self.formulas.atom(atom) for atom in (*STATE, *itertools.chain(*MOVES.values()))]
 
     def worlds(self, number):
-        """Returns the numbers of the worlds in which a formula is true."""
+        """Returns the numbers of the worlds that make a formula true."""
         if number in (TRUE, FALSE):
             return frozenset(range(len(WORLDS))) if number == TRUE else frozenset()
         expression = self.formulas.expression(number)

@@ -16,7 +16,7 @@ from ggp_tools.descriptions.goals import goals_said
 from ggp_tools.descriptions.suspicious import suspicions
 from support import COMMAND, GAMES, InFolder, program, program_but, run, run_into_full
 
-# A game of two turns, in which nothing is suspicious.
+# A game of two turns without suspicious sentences.
 SOUND = """(role ann) (role bob)
 (init (step 1))
 (<= (legal ann go) (true (step 1)))

@@ -233,7 +233,7 @@ CHANGES = (
 
 
 def file_with(tables, section, key, value):
-    """Returns a file with these tables, in which a key has this value or is missing, and the line of the key."""
+    """Returns a file with these tables, and the line of a key. The key has this value or is missing."""
     tables = {**FILE, **tables}
     tables[section] = {**tables[section], key: value}
     lines = [(name, of, f"{of} = {said}" if of else HEADS.get(name, f"[{name}]" if name else "")) for name, keys in tables.items() for of, said in {"": "", **keys}.items() if said is not None]

@@ -36,7 +36,7 @@ OPEN = """
 (<= (next (said ?r ?n)) (does ?r (say ?n))) (<= terminal (true (said a ?n))) (<= (goal a 100) (true (said a 1))) (<= (goal a 0) (true (said a 2)))
 (<= (goal b 50) (role b))
 """
-# The maximum time, in seconds, for which a thread waits for a person's action on a busy computer.
+# The maximum time, in seconds, that a thread waits for a person's action on a busy computer.
 SECONDS = 60
 
 

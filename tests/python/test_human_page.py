@@ -106,7 +106,7 @@ class InBrowser(unittest.TestCase):
         self.assertEqual(page.value(f"{CELLS}.filter((cell) => cell.matches('.new')).map((cell) => cell.title)"), ["4 1: yellow"])
         self.answered(self.ask("(ABORT M)"))
         asked.join(HANGS)
-        # Moves that share their places are buttons, and so are moves without places.
+        # Moves that share their places, and moves without places, are buttons.
         page = self.begin("a", PROMOTING)
         asked = self.ask("(PLAY M NIL)")
         page.until("document.querySelectorAll('#moves button').length === 1")

@@ -104,7 +104,7 @@ class Seconds(InFolder):
 
 @unittest.skipUnless(shutil.which("gringo"), "gringo is not installed")
 class Described(InFolder):
-    """Ground rules with the description with variables next to them."""
+    """Ground rules with the GDL file with variables next to them."""
 
     def setUp(self):
         super().setUp()

@@ -1,4 +1,4 @@
-"""Many matches as a job array of Slurm on three nodes, one of which dies."""
+"""Many matches as a job array of Slurm on three nodes. One node dies."""
 
 import json
 import pathlib

@@ -193,7 +193,7 @@ class Files(InCache):
         self.assertEqual(self.written(), 1)
 
     def begin_first_match_later(self):
-        """Changes the time at which the first match begins in the log. On a busy computer, this need not be the first object of the log."""
+        """Changes the time when the first match begins in the log. On a busy computer, this need not be the first object of the log."""
         log = self.plan.folder.log(self.plan.matches[0].id)
         lines = log.read_bytes().splitlines(keepends=True)
         later = [line.replace(b"%d" % BEGAN, b"%d" % (BEGAN + 100)) if b'"event":"open"' in line else line for line in lines]

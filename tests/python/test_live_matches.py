@@ -18,7 +18,7 @@ from ggp_tools.referee import Referee
 from players import message_of
 from support import InFolder, program
 
-# Seven turns, and moves with the names of errors.
+# Seven turns, and moves named like errors.
 STEPS = "".join(f"(<= (next (step {step + 1})) (true (step {step})))" for step in range(1, 8))
 RULES = f"(role a) (role b) (init (step 1)) {STEPS} (<= terminal (true (step 8))) (goal a 100) (goal b 0)"
 RULES += "".join(f"(legal {role} {move}) (<= (next (did {role} {move})) (does {role} {move}))" for role, move in (

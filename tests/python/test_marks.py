@@ -86,7 +86,7 @@ class Texts(unittest.TestCase):
 
 class Boards(unittest.TestCase):
     def cells(self, *terms):
-        """Returns for each cell of the board of these terms its classes, its title and its text."""
+        """Returns the classes, the title and the text of each cell of the board of these terms."""
         (board,) = boards_of([list(terms)])
         page = board_page(board, board_places(board, list(terms)), None, None, board.marks(Named()))
         found = parsed(page)("i")

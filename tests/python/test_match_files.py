@@ -288,7 +288,7 @@ class Looked(unittest.TestCase):
         known = Known(self.folder.path)
         found = self.look(known)
         self.assertEqual((sorted(found[0]), list(found[1]), list(found[2]), sum(self.referee.counts)), (["cup-2", "cup-3"], ["cup-0"], ["cup-1"], 2))
-        # If the rules change or disappear during the check, nothing is stored.
+        # If the rules change or disappear during the check, no result is stored.
         for match in self.plan.matches:
             self.write(match, phase="aborted")
         rules, plain = self.folder.rules_of("one"), self.referee.verdicts

@@ -1,4 +1,4 @@
-"""Matches of a ground description, and their phases. The game is so small that the test lists all of its states."""
+"""Matches of a ground GDL game, and their phases. The game is so small that the test lists all of its states."""
 
 import unittest
 

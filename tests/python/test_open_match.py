@@ -207,7 +207,7 @@ class Whole(WithMatch):
 
 class Asking(WithMatch):
     def asked(self, *answers, head=None):
-        """Plays a match in which both players give these answers. Returns whether it was played, the reason if it was not, and the
+        """Plays a match where both players give these answers. Returns whether it was played, the reason if it was not, and the
         reports."""
         if head:
             self.begin(head)

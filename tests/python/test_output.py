@@ -15,7 +15,7 @@ GAME = (
     "(role red) (role blue) (init (heap 1)) (legal red go) (legal blue go) (<= (next (heap 0)) (true (heap 1))) (<= terminal (true (heap 0)))"
     " (goal red 100) (goal blue 0)\n"
 )
-# The conflicting rules of a ground description: 50 sentences that depend on each other, and 50 roles that are named twice.
+# The conflicting rules of a ground GDL file: 50 sentences that depend on each other, and 50 roles that are named twice.
 CYCLE = "".join(f"(<= (p{number} {LONG[:2_000]}) (not (p{(number + 1) % 50} {LONG[:2_000]})))\n" for number in range(50))
 ROLES = "".join(f"(role {LONG[:2_000]}{number}) (role {LONG[:2_000]}{number})\n" for number in range(50))
 DESCRIPTIONS = {

@@ -96,7 +96,7 @@ def in_half_the_rounds(name: str) -> Sentences:
 
 
 def wound(sentences: Sentences) -> Record:
-    """Returns the record of the match in which red's stones wind from side to side."""
+    """Returns the record of the match where red's stones wind from side to side."""
     match = begun(sentences)
     cells = [("place", x, y) for x, y in WINDING]
     others = sorted({head[2] for head in match.game.rules if relation(head) == ("legal", 2) and head[1] == "blue" and head[2] not in (*cells, "noop")})
@@ -118,7 +118,7 @@ def reached(name: str, plant: Plant) -> tuple[Record, Record]:
 
 
 def assert_found(name: str, record: Record, right: Record) -> None:
-    """Checks that the error is found in the wrong record, and that nothing is found in the right one."""
+    """Checks that the error is found in the wrong record, and that no error is found in the right one."""
     status, words = holding(name).held(json.dumps(record))
     assert (status, words.partition(":")[0]) == (DIFFERENT, "differs"), (name, words)
     assert holding(name).held(json.dumps(right)) == (SAME, f"the same: {counted(len(right['moves']), 'turn')}"), name

@@ -25,13 +25,13 @@ def drawn_points(draw):
 
 
 def expected(player, points, logs):
-    """Computes from the strengths the expected points of a player against the opponents in its group."""
+    """Computes the expected points of a player against the opponents in its group. `logs` has the logarithms of the strengths."""
     met = {other: points[player, other] + points[other, player] for other in logs if (player, other) in points}
     return sum(count / (1 + math.exp(logs[other] - logs[player])) for other, count in met.items())
 
 
 def reached(players, points):
-    """Returns, for each player, the players to which a chain of points leads."""
+    """Returns, for each player, the players that a chain of points leads to."""
     found = {player: {player} for player in players}
     for _ in players:
         for (player, opponent), got in points.items():

@@ -124,7 +124,7 @@ class Forfeits(unittest.TestCase):
 
 class Winners(unittest.TestCase):
     def result(self, goals, lost=()):
-        """Returns the result of a match in which the players of these roles forfeited."""
+        """Returns the result of a match where the players of these roles forfeited."""
         roles = len(goals) or 2
         errors = [["TO" if role in lost else "" for role in range(roles)]]
         match = Match("m", "game", 1, 1, tuple(f"p{role}" for role in range(roles)))

@@ -324,7 +324,7 @@ class ByRounds(unittest.TestCase):
         self.assertEqual(self.read().matches, plan.matches)
 
     def broken_off(self, form):
-        """Makes a competition in which `again` was interrupted before it wrote the schedule. Returns the plan before that, and the id of the
+        """Makes a competition where `again` was interrupted before it wrote the schedule. Returns the plan before that, and the id of the
         rematch."""
         self.setUp()
         self.write(4, form)

@@ -19,7 +19,7 @@ COUNTDOWN = [("countdown", GAMES / "countdown.kif")]
 
 
 def turns(*goals):
-    """Returns a game in which each role in turn has two moves while the others wait, and which ends after two turns of each. The goals are known."""
+    """Returns a game where each role in turn has two moves while the others wait. It ends after two turns of each. The goals are known."""
     roles, last = [f"r{at}" for at in range(len(goals))], 2 * len(goals)
     lines = [f"(role {role}) (goal {role} {goal})" for role, goal in zip(roles, goals)] + ["(init (step 0))", f"(<= terminal (true (step {last})))"]
     for step in range(last):

@@ -531,7 +531,7 @@ class Pages(Served):
         self.assertNotIn("ann was restarted", self.page("/"))
 
     def test_an_open_match_that_no_plan_has_may_be_that_of_any_player(self):
-        """While a new plan cannot be read, nothing is shown that a silent or dead player in an open turn of its matches would explain."""
+        """While a new plan cannot be read, the pages do not show facts that a silent or dead player in an open turn of its matches would explain."""
         players = tuple(dataclasses.replace(player, command=Mock(restart=WHEN_DEAD)) for player in self.plan.competition.players)
         self.plan.competition = dataclasses.replace(self.plan.competition, players=players)
         unknown, asking, given_up, other = self.plan.matches[:4]

@@ -40,7 +40,7 @@ NAMES = ["ann", "bob", "cid"]
 
 
 def rules_of(roles: tuple[str, ...]) -> bytes:
-    """Returns a game in which all roles say something at once. The next state shows what they said."""
+    """Returns a game where all roles say something at once. The next state shows what they said."""
     legal = "".join(f"(legal {role} (say zq{turn}x{at}))" for at, role in enumerate(roles) for turn in range(1, 20))
     said = "".join(f"(role {role}) (<= (next (said {role})) (does {role} (say zq1x0))) (goal {role} 50)" for role in roles)
     return f"(init (step 1)) {said} {legal}".encode()
@@ -183,7 +183,7 @@ def rounds_of(draw, match, strikes):
 
 
 class Desk:
-    """A fake desk for the game in which all roles may always say something, because the real one would be too slow for many tests."""
+    """A fake desk for the game where all roles may always say something, because the real one would be too slow for many tests."""
 
     def desk(self, _, script):
         first, *calls = (row.split(" ", 4) for row in script.decode("latin-1").splitlines() if not row.startswith("next "))

@@ -1,4 +1,4 @@
-"""Files and standard streams: the messages of errors, and their exit status."""
+"""Files and standard streams: error messages and exit status."""
 
 import argparse
 import errno

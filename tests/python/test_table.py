@@ -29,7 +29,7 @@ def competition(head=""):
 
 
 def result(players, goals, wrong=None, retired=None, game="two"):
-    """Returns the result of a match in which this many moves of each player were replaced."""
+    """Returns the result of a match where this many moves of each player were replaced."""
     wrong = wrong or [0] * len(players)
     errors = tuple(Counter({"TO": count} if count else {}) for count in wrong)
     retirements = tuple(Retirement(("TO",), 5) if gone else None for gone in retired or [False] * len(players))

@@ -1,4 +1,4 @@
-"""Parsing TOML with the line of each value, whatever else the text contains."""
+"""Parsing TOML with the line of each value, regardless of the rest of the text."""
 
 import random
 import tomllib

@@ -61,7 +61,7 @@ class Why(InFolder):
         self.assertNotIn("?", both.replace("IL ?", ""))
 
     def answers_after_its_lines(self, player):
-        """Lets a player answer each message of the match some milliseconds after the previous line was written."""
+        """Lets a player answer each message of the match a few milliseconds after the previous line was written."""
         answer, log, answered = player.answer, self.folder / "open/cup-001/log.jsonl", []
 
         def lines():

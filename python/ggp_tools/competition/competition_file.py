@@ -273,13 +273,13 @@ def line_of(key: str = "") -> Any:
 
 
 def keys_of(kind: type) -> list[str]:
-    """Returns the keys from which an object of the class `kind` is read."""
+    """Returns the keys that an object of the class `kind` is read from."""
     return [of.metadata.get("key") or of.name for of in fields(kind) if not of.metadata.get("is_line")]
 
 
 @dataclass(frozen=True)
 class Game:
-    """A game. If `file` is a ground description, `described` may name the description with variables. `instantiate` is the time limit of
+    """A game. If `file` is a ground GDL file, `described` may name the GDL file with variables. `instantiate` is the time limit of
     grounding in seconds. With `aborts`, random matches of the game may be aborted. `board` says how pages draw its boards."""
 
     name: str = read_by(Section.name, NAME, 40, FIRST)
@@ -296,7 +296,7 @@ class Game:
     board: str = read_by(Section.word, BOARDS, BOARDS[0])
 
     def tells_variables(self) -> bool:
-        """Returns whether players get the description with variables."""
+        """Returns whether players get the GDL file with variables."""
         return self.player_rules == PLAYER_RULES[1]
 
 
@@ -343,7 +343,7 @@ class Launcher:
 
 @dataclass(frozen=True)
 class Faults:
-    """A player loses a match if `replaced` of its moves were replaced in turns in which it had a choice. If `replaced` is 0, there is no
+    """A player loses a match if `replaced` of its moves were replaced in turns where it had a choice. If `replaced` is 0, there is no
     limit."""
 
     replaced: int = read_by(Section.number, 1, MOST_TURNS)
@@ -351,7 +351,7 @@ class Faults:
 
 @dataclass(frozen=True)
 class Form:
-    """The pairing: a round robin, a gauntlet of one player against all others, a schedule in which each line has a game and its players, a
+    """The pairing: a round robin, a gauntlet of one player against all others, a schedule where each line has a game and its players, a
     Swiss competition, or a knockout. After the rounds of a Swiss competition, the `final` best players may play a knockout."""
 
     kind: str

@@ -41,7 +41,7 @@ def description_of(plan: Plan, game: Game) -> tuple[bytes | None, str | None]:
 
 
 def comparisons(path: pathlib.Path, records: Sequence[bytes]) -> list[str]:
-    """Compares records, each of which is one line, with a description. Returns the result for each record."""
+    """Compares records of one line each with a description. Returns the result for each record."""
     run = run_module("holding.command", f"--seconds={SECONDS}", "--", str(path), data=b"".join(records))
     lines = run.stdout.decode("ascii", "replace").splitlines()
     if run.returncode not in (SAME, DIFFERENT, NOT_FOLLOWED) or len(lines) != len(records):

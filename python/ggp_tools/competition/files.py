@@ -170,12 +170,12 @@ class Folder:
         self.schedule = self.path / "schedule.tsv"
         # The competition.toml that `plan` read last; the earlier versions; the matches that are played again.
         self.planned, self.earlier, self.again = self.path / "planned.toml", self.path / "earlier", self.path / "again.tsv"
-        # The key from which random ids of matches are computed.
+        # The key for the random ids of matches.
         self.key = self.path / "ids.key"
-        # The table of another competition, from which the seeds come.
+        # The table of another competition that gives the seeds.
         self.seeds = self.path / "seeds.csv"
         self.rules, self.open = self.path / "rules", self.path / "open"
-        # The checksums of the rules, and of the descriptions from which `plan` made them.
+        # The checksums of the rules, and of the descriptions that `plan` made them from.
         self.rule_sums, self.description_sums = self.rules / "SHA256SUMS", self.rules / "DESCRIPTIONS.sha256"
         self.records, self.accounts, self.logs = (self.path / name for name in ("records", "accounts", "logs"))
         self.matches, self.pages = self.path / "matches.jsonl", self.path / "pages"
@@ -194,7 +194,7 @@ class Folder:
         return [self.rules_of(game.name), *([self.player_rules_of(game.name)] if game.tells_variables() else [])]
 
     def description(self, game: "Game") -> pathlib.Path:
-        """Returns the file of a game's description. If competition.toml also names ground rules, this is the description with variables."""
+        """Returns the file of a game's description. If competition.toml also names ground rules, this is the GDL file with variables."""
         return self.path / (game.described or game.file)
 
     def record(self, match: str) -> pathlib.Path:
@@ -238,7 +238,7 @@ class Folder:
             return file.read(most), is_cut
 
     def mark(self) -> str:
-        """Returns the mark by which `play` recognizes the programs that it runs for this competition."""
+        """Returns the mark of the programs that `play` runs for this competition. `play` uses it to recognize them."""
         return os.path.realpath(self.path)
 
     def refuse_old_logs(self) -> None:

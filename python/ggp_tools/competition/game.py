@@ -44,7 +44,7 @@ def add_game(commands: Any) -> argparse.ArgumentParser:
     command.add_argument("--matches", type=whole(0, MOST_MATCHES), default=20, metavar="N", help="play N random matches (default: 20)")
     text = "the seed of the first match (default: 1); each later match uses the next number"
     command.add_argument("--seed", type=whole(0, MOST_SEED), default=1, metavar="S", help=text)
-    text = "the limit of processor time for grounding a description with variables, in seconds (default: 60)"
+    text = "the limit of processor time for grounding a GDL file with variables, in seconds (default: 60)"
     command.add_argument("--instantiate", type=seconds, default=INSTANTIATING, metavar="T", help=text)
     text = "search for suspicious sentences for at most T seconds, and begin no turn after T seconds of matches (default: 60)"
     command.add_argument("--seconds", type=seconds, default=60, metavar="T", help=text)

@@ -2,7 +2,7 @@
 rematches. The planned matches stay as they are, and the new matches come after them.
 
 The schedule follows from all versions of competition.toml, and from the rematches. Each version adds the matches that it requests and that
-the previous version did not request. If a version adds players, a game of more than two roles gets only the matches in which a new player
+the previous version did not request. If a version adds players, a game of more than two roles gets only the matches where a new player
 plays."""
 
 import itertools
@@ -47,7 +47,7 @@ class Again:
 @dataclass(frozen=True)
 class History:
     """The earlier versions of competition.toml, each with the number of matches that were planned when the next version replaced it; the
-    rematches; and the key from which random ids of matches are computed."""
+    rematches; and the key for the random ids of matches."""
 
     earlier: tuple[tuple[int, Competition], ...] = ()
     again: tuple[Again, ...] = ()

@@ -82,7 +82,7 @@ def read_history(folder: Folder, competition: Competition) -> History:
 
 
 def read_key(folder: Folder, competition: Competition) -> bytes:
-    """Returns the key from which random ids of matches are computed. If the ids are consecutive numbers, the key is empty."""
+    """Returns the key for the random ids of matches. If the ids are consecutive numbers, the key is empty."""
     if competition.ids != RANDOM_IDS:
         return b""
     if not folder.key.exists():

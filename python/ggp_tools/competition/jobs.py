@@ -42,7 +42,7 @@ def is_player(text: str) -> bool:
 class Job:
     """A run of `job.py`, by a launcher on another computer, or without a launcher on this one. `take_output` receives the standard output of
     the job. `take_lines` receives the lines that the job passes on to standard error, several at a time. A launcher must run the job within
-    `queue_seconds`. The computer on which the job runs may be hostile."""
+    `queue_seconds`. The computer that runs the job may be hostile."""
 
     def __init__(
         self, take_output: Callable[[bytes], Awaitable[None]], take_lines: Callable[[bytes], Awaitable[None]],

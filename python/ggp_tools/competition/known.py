@@ -1,4 +1,4 @@
-"""Caches facts about the files of a competition. The keys are checksums of everything on which the facts depend, so a lookup for a changed file
+"""Caches facts about the files of a competition. The keys are checksums of everything that the facts depend on, so a lookup for a changed file
 never returns outdated facts. The cache is in the user's cache directory, so a competition's directory that comes from somebody else cannot
 contain false facts."""
 

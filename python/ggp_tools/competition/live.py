@@ -358,7 +358,7 @@ class Reader:
         commands = {player.name: player.command for player in plan.competition.players}
         self.restarting = {name for name, command in commands.items() if command and command.restart != EACH_MATCH}
         self.news: list[News] = []
-        # How often each player was restarted, and for which match it was last restarted.
+        # How often each player was restarted, and the match of the last restart.
         self.restarted: dict[str, tuple[int, str]] = {}
         if before:
             self.keep(before)

@@ -46,8 +46,8 @@ def round_of(phase: str, moves: list) -> int:
 
 @dataclass(frozen=True)
 class Position:
-    """How far a match has got: the phase, the roles that owe an answer in the open round, and what is recorded. It keeps only the first and the last
-    states, but `movers` has the role whose turn it is in every state."""
+    """How far a match has got: the phase, the roles that owe an answer in the open round, and the recorded states, moves and errors. It keeps only
+    the first and the last states, but `movers` has the role whose turn it is in every state."""
 
     phase: str = "starting"
     owing: frozenset[int] = frozenset()
@@ -185,7 +185,7 @@ class LiveBoard:
         return "".join(f"next {self.match.id} {role}\n" for role in range(len(self.match.players))).encode()
 
     def call(self, role: int, at: int, answer: str | None, missed: str) -> bytes:
-        """Returns the row of a script in which a role answers in a round, or misses its answer."""
+        """Returns the row of a script that makes a role answer in a round, or miss its answer."""
         where = f"{self.match.id} {role} {at} ".encode()
         return b"miss " + where + missed.encode() + b"\n" if answer is None else b"submit " + where + text_in_line(answer) + b"\n"
 

@@ -94,7 +94,7 @@ def last_board_item(result: Result, state: "Markup", roles: tuple[str, ...]) -> 
 
 
 def restart_words(player: str, restarts: tuple[int, str]) -> str:
-    """Says how often `play` restarted a player, and for which match it last did so."""
+    """Says how often `play` restarted a player, and names the match of the last restart."""
     count, match = restarts
     return f"{player} was restarted {'once' if count == 1 else f'{count} times, the last time'}, for {match}"
 

@@ -33,7 +33,7 @@ if typing.TYPE_CHECKING:
 
 # Computing tables takes at most a tenth of the time, and following boards takes at most FOLLOW seconds of each update.
 SHARE, FOLLOW = 10, 0.25
-# The seconds for which a page without viewers is kept, the number of pages that are kept, and the number and the total bytes of the changes that are
+# The seconds that a page without viewers is kept, the number of pages that are kept, and the number and the total bytes of the changes that are
 # kept for each page.
 IDLE, MOST_PAGES, MOST_EVENTS, BYTES_OF_EVENTS = 30.0, 200, 60, 1 << 20
 # The bytes of the pages of finished matches that are kept. A browser without JavaScript reloads a page after this many seconds.

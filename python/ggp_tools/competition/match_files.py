@@ -86,8 +86,8 @@ def account_bytes(folder: Folder, match: str) -> bytes | None:
 
 
 def fault_of_files(record: bytes, account: bytes | None, rules: bytes) -> str | None:
-    """Returns the reason why the files of a match cannot be passed to the referee, or None. Such a reason is anything at which the referee would
-    stop reading, or which it would skip."""
+    """Returns the reason why the files of a match cannot be passed to the referee, or None. Such a reason is anything that makes the referee
+    stop reading, or that it skips."""
     if account is None:
         return "its call log is missing"
     if len(account) > LONGEST_ACCOUNT:
@@ -242,13 +242,13 @@ def unplanned_records(plan: "Plan") -> list[str]:
 
 
 def free_ending(files: tuple[pathlib.Path, ...], word: str) -> str:
-    """Returns the first of the endings `.word`, `.word.2`, `.word.3` and so on for which none of the files exists yet."""
+    """Returns the first of the endings `.word`, `.word.2`, `.word.3` and so on that none of the existing files has."""
     endings = itertools.chain([f".{word}"], (f".{word}.{count}" for count in itertools.count(2)))
     return next(ending for ending in endings if not any(file.with_name(file.name + ending).exists() for file in files))
 
 
 def files_of(folder: Folder, match: str) -> tuple[pathlib.Path, ...]:
-    """Returns the files of a match in the order in which they are written: the record last."""
+    """Returns the files of a match in the order of writing: the record last."""
     return folder.log(match), folder.account(match), folder.record(match)
 
 

@@ -199,7 +199,7 @@ class Site:
         return game, self.answers(result), Frame(self.match_head(result), self.named(result.match.game), winner_words(result))
 
     def key_of_page(self, result: Result, data: bytes) -> str:
-        """Returns a checksum of everything on which the page of a match depends."""
+        """Returns a checksum of everything that the page of a match depends on."""
         head = self.plan.competition.name, round_text(self.plan.competition, result.match), result, self.answers(result)
         head += (self.games[result.match.game].board,)
         return sum_of_parts(repr(head).encode(), data, self.plan.rules[result.match.game].sum.encode())
@@ -259,7 +259,7 @@ class Site:
 
 
 class PageOf(typing.NamedTuple):
-    """A page: its title, the results and the text on which it depends, and a function that makes its parts."""
+    """A page: its title, the results and the text that it depends on, and a function that makes its parts."""
 
     title: str
     results: list[Result]
@@ -332,7 +332,7 @@ class Pages:
         return names
 
     def sum_of_sources(self, results: list[Result]) -> str:
-        """Returns a checksum of everything on which the pages depend."""
+        """Returns a checksum of everything that the pages depend on."""
         plan, folder = self.plan, self.plan.folder
         files = [(sum_or_none(folder.record(result.match.id)), sum_or_none(folder.log(result.match.id))) for result in results]
         return sum_of_parts(repr((plan.competition, plan.rules, plan.matches, plan.rounds, self.site.shows_gaps, results, files)).encode())

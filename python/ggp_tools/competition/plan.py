@@ -24,7 +24,7 @@ from ggp_tools.referee import Referee, Unchecked
 
 SUM_LINE = re.compile(rb"([0-9a-f]{64})  ([^\n]+)\n")
 ONLY_SUMS = re.compile(rb"(?:[0-9a-f]{64}  [^\n]+\n)*")
-# The file of another competition's table, from which the seeds are read.
+# The file of another competition's table, which has the seeds.
 TABLE = "table.csv"
 WRITES = "`ggp_competition plan` writes it"
 PUT_BACK = "undo the change: once matches have been played, the plan can only grow"
@@ -144,7 +144,7 @@ def count_of_matches(folder: Folder) -> int | None:
 
 
 def files_of_origin(plan: Plan) -> list[Path]:
-    """Returns the files, other than competition.toml, on which the schedule depends."""
+    """Returns the files, other than competition.toml, that the schedule depends on."""
     folder = plan.folder
     return [folder.planned, *history_files(folder), *([folder.key] if plan.history.key else []), *([folder.seeds] if plan.competition.seeds else [])]
 
@@ -317,7 +317,7 @@ def write_plan(folder: Folder, is_begun: bool, files: dict[Path, bytes]) -> None
 
 
 def faults_of_descriptions(plan: Plan, path_of: Callable[[Game], Path], advice: str = "") -> Iterator[str]:
-    """Yields an error for each description that is not the one from which the rules were made. `path_of` returns the path of a game's description.
+    """Yields an error for each description that is not the one that the rules were made from. `path_of` returns the path of a game's description.
     If the file with the checksums is missing, the error includes the advice."""
     path = plan.folder.description_sums
     if not path.is_file():
@@ -331,7 +331,7 @@ def faults_of_descriptions(plan: Plan, path_of: Callable[[Game], Path], advice: 
         elif sum_of(text := file.read_bytes()) != sums.get(f"{game.name}.kif"):
             yield f"{file} is not the description that the rules of {game.name} were made from"
         elif not has_variables(text) and text != plan.rules[game.name].text:
-            yield f"{file} differs from the rules of {game.name}; a description without variables must be equal to the rules"
+            yield f"{file} differs from the rules of {game.name}; a ground GDL file must be equal to the rules"
     for name in sorted(sums.keys() - {f"{game.name}.kif" for game in plan.competition.games}):
         yield f"{path} has a checksum of {name}, which is not a game of {plan.folder.competition}"
 
@@ -396,7 +396,7 @@ def refuse_lost_record(folder: Folder, growing: Growing) -> None:
 
 
 def refuse_lost_results(plan: Plan, results: Mapping[str, Result]) -> None:
-    """Refuses a schedule in which a later round was paired by the result of a match whose record does not count."""
+    """Refuses a schedule where a later round was paired by the result of a match whose record does not count."""
     last = len(plan.rounds)
     lost = [match.id for match in plan.matches if match.round < last and match.counts() and match.id not in results]
     if last and lost:

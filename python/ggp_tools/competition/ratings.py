@@ -2,7 +2,7 @@
 
 The strengths are those that make the results most likely. A draw counts as half a win for each player. The strengths are unique, up to a
 factor, if every subset of the players has points against the other players (Ford, "Solution of a ranking problem from binary comparisons",
-The American Mathematical Monthly 64, 1957). So the players are divided into the largest groups in which this holds. Each group is rated
+The American Mathematical Monthly 64, 1957). So the players are divided into the largest groups that have this property. Each group is rated
 separately, and a player without a group has no rating. A rating is 400 times the decimal logarithm of the strength. The mean rating of a
 group is 0, unless the group has anchors. The 95% intervals follow from the observed information: the negative second derivatives of the
 logarithm of the likelihood, inverted for ratings whose sum is 0. In tests with eight players of known strengths, 763 of 800 intervals
@@ -22,7 +22,7 @@ MOST_STEPS, CLOSE = 100, 1e-8
 
 
 def groups(points: numpy.ndarray) -> list[list[int]]:
-    """Returns the largest groups of players in which a chain leads from each player to every other player. A chain is a row of players in which
+    """Returns the largest groups of players where a chain leads from each player to every other player. A chain is a row of players where
     each has points against the next one. The groups are in the order of their first players."""
     leads = (points > 0) | numpy.eye(len(points), dtype=bool)
     # Each step doubles the length of the chains that are considered.

@@ -175,8 +175,8 @@ def result_of(record: dict, match: Match, has_forfeits: bool = False, lapses: tu
 
 
 def lapse_of(record: dict, data: bytes, rules: "Rules", role: int, most: int) -> Retirement | None:
-    """Returns the reason why a role has lost a match because of `most` replaced moves, or None if it has not. Turns in which the role had only
-    one legal move do not count."""
+    """Returns the reason why a role has lost a match because of `most` replaced moves, or None if it has not. A turn does not count if the role
+    had only one legal move."""
     errors, lapses = [turn[role] for turn in record["errors"]], []
     if len(errors) - errors.count("") < most:
         return None
@@ -217,8 +217,8 @@ def result_keys(result: Result) -> dict[str, object]:
 
 
 def match_line(result: Result, sums: Mapping[str, str | None], logged: Beginning, broken: list[dict[str, object]]) -> bytes:
-    """Returns a match as one line of JSON. `sums` has the checksums of the record, of the rules, and of the description from which the
-    rules were made. `broken` has the broken answers with their reasons."""
+    """Returns a match as one line of JSON. `sums` has the checksums of the record, of the rules, and of the description that the
+    rules were made from. `broken` has the broken answers with their reasons."""
     match = result.match
     values = {
         "id": match.id,

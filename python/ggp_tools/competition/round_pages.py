@@ -35,7 +35,7 @@ def rounds_words(plan: Plan) -> str:
 
 
 def round_text(competition: Competition, match: Match) -> str:
-    """Says in which round a match is. If the match has no round, the text is empty."""
+    """Names the round of a match. If the match has no round, the text is empty."""
     return f"Round {match.round} of {rounds_of(competition)}." if match.round else ""
 
 

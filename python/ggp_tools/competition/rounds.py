@@ -183,7 +183,7 @@ class Rounds:
     def __init__(self) -> None:
         self.found: list[Round] = []
         self.scores: Scores | None = None
-        # The results so far, the number of whole rounds from which each player was absent, and the number of rounds that have been counted.
+        # The results so far, the number of whole rounds that each player missed, and the number of rounds that have been counted.
         self.results: list[Result] = []
         self.absences: Counter[str] = Counter()
         self.counted = 0

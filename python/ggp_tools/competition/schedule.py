@@ -51,7 +51,7 @@ class Match:
 def circle_steps(count: int, roles: int, rounds: int) -> Iterator[tuple[int, ...]]:
     """Places the players in a circle. Yields, for each block of matches, the distances from the player of the first role to the players of all
     roles. A block has one match for each place in the circle, so each player plays each role once. With two roles, each distance occurs once in a
-    round. With more roles, each distance is one at which players have met least often."""
+    round. With more roles, each distance is one of those that occurred least often."""
     if roles == 1:
         yield from [(0,)] * rounds
         return

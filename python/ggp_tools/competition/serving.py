@@ -41,7 +41,7 @@ BASE = matching("(/[A-Za-z0-9_~-][A-Za-z0-9._~-]*)*", "a path that begins with /
 
 
 def origin(text: str) -> str:
-    """Returns an origin in the form in which browsers write it: in lower case, and without the usual port of its scheme."""
+    """Returns an origin as browsers write it: in lower case, and without the usual port of its scheme."""
     parts = ORIGIN.fullmatch(text)
     if not parts or not 1 <= int(parts[4] or 1) <= MOST_PORT:
         raise argparse.ArgumentTypeError(f"expected an origin, such as https://club.example, found {text!r}")

@@ -20,7 +20,7 @@ from ggp_tools.processes import ended_words
 from ggp_tools.referee import Referee
 from ggp_tools.reporting import Reporter
 
-# The address of a player that is not running. Nothing listens at this port.
+# The address of a player that is not running. No program listens at this port.
 HERE, NOWHERE = "127.0.0.1", "127.0.0.1:1"
 # A player must end within this many seconds.
 END_SECONDS = 15
@@ -41,7 +41,7 @@ class PlayerLog:
 
     def __init__(self, path: pathlib.Path) -> None:
         self.path, self.size = path, path.stat().st_size if path.exists() else 0
-        # The position at which the output since the last start begins.
+        # The position where the output since the last start begins.
         self.begin = self.size
 
     def mark(self, text: str) -> None:

@@ -9,7 +9,7 @@ from ggp_tools.match_log import LONGEST_LINE
 
 # One read takes about this many bytes at most, so that a long log does not delay the others.
 MOST_READ = 1 << 20
-# The first bytes show whether another file has replaced this one: in the log of a match, they include the time at which the match began.
+# The first bytes show whether another file has replaced this one: in the log of a match, they include the time when the match began.
 HEAD = 256
 T = TypeVar("T")
 

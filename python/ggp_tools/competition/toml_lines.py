@@ -20,7 +20,7 @@ PLACE = re.compile(r" \(at line (\d+), column \d+\)")
 KEY = re.compile(r"\s*([A-Za-z0-9_-]+)")
 
 
-# The time in which Python's parser reads a dotted key grows with the square of the number of dots, so more dots than this are refused.
+# The time that Python's parser needs for a dotted key grows with the square of the number of dots, so more dots than this are refused.
 MOST_DOTS = 100
 # Each key, table and member of an array has one of these characters. Because each value takes memory, a file may have only this many of these
 # characters. The limit suffices for the longest schedule and the maximum number of players.

@@ -47,7 +47,7 @@ class Entry:
 
 
 def marked(entries: list[Entry]) -> list[Entry]:
-    """Returns the entries. Before each entry at which the clock had been set back, inserts a remark that says so."""
+    """Returns the entries. Inserts a remark before each entry that was written after the clock had been set back."""
     remarked, before = [], {}
     for entry in entries:
         if entry.time and entry.time < before.get(entry.is_note, ""):

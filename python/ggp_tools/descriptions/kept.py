@@ -54,13 +54,13 @@ def store(kind: str, name: str, data: bytes, most: int) -> None:
 
 
 def sources() -> list[pathlib.Path]:
-    """Returns the files of the code on which a result depends."""
+    """Returns the files of the code that a result depends on."""
     shared = (HERE.parent / name for name in ("gdl.py", "kif.py", "printable.py"))
     return sorted([*(HERE.parent / "instantiating").glob("*.py"), *shared])
 
 
 def sum_of_work(text: bytes, options: list[str]) -> str:
-    """Returns a checksum of everything on which a result depends. The time limit is not included."""
+    """Returns a checksum of everything that a result depends on. The time limit is not included."""
     checksum = hashlib.sha256()
     # The size and the time of the grounder's file identify the grounder, because asking for its version would mean running it.
     path = shutil.which("gringo")

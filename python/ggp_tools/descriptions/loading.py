@@ -37,7 +37,7 @@ class Stopped(NoDescription):
 
 @dataclass(frozen=True)
 class Rules:
-    """The ground description of a game: its text, checksum and roles. `player_rules` is the description for players, if it differs from the text.
+    """The ground GDL text of a game: the text, checksum and roles. `player_rules` is the description for players, if it differs from the text.
     `description_sum` is the checksum of the source file, if known."""
 
     text: bytes
@@ -54,7 +54,7 @@ def sum_of(data: bytes) -> str:
 
 
 def sentence_starts(text: bytes) -> list[int]:
-    """Returns the index at which each sentence begins. Refuses a text that is not KIF, or has no sentence."""
+    """Returns the index where each sentence begins. Refuses a text that is not KIF, or has no sentence."""
     description = text.decode("latin-1")
     try:
         indices = kif.starts(description)
@@ -91,8 +91,7 @@ def why_not(made: subprocess.CompletedProcess) -> str:
 
 
 def instantiated(path: pathlib.Path, text: bytes, tells_variables: bool, seconds: float, is_large: bool = False) -> tuple[bytes, bytes | None]:
-    """Returns the ground description that `ggp-instantiate` makes from a file, and the description for players if players need another
-    one."""
+    """Returns the ground GDL text that `ggp-instantiate` makes from a file, and the text for players if it differs."""
     large = ["--large"] if is_large else []
     key = kept.sum_of_work(text, [*large, *(["--player-rules"] if tells_variables else [])])
     if result := kept.kept(key):
@@ -110,7 +109,7 @@ def instantiated(path: pathlib.Path, text: bytes, tells_variables: bool, seconds
 
 
 def notes_of(ground: bytes) -> tuple[str, ...]:
-    """Returns the notes of `ggp-instantiate` at the top of a ground description."""
+    """Returns the notes of `ggp-instantiate` at the top of a ground GDL text."""
     return tuple(note[2:].decode() for note in itertools.takewhile(lambda line: line.startswith(b"; "), ground.splitlines()))
 
 
@@ -118,7 +117,7 @@ def rules_of(
     text: bytes, name: pathlib.Path | str, referee: Referee, player_rules: bytes | None = None, description_sum: str | None = None,
     notes: tuple[str, ...] = (),
 ) -> Rules:
-    """Returns the rules of a ground description, with the roles that the referee finds in it. If the description exceeds the usual limits,
+    """Returns the rules of a ground GDL text, with the roles that the referee finds in it. If the text exceeds the usual limits,
     the large limits apply. If the referee refuses the rules, raises an error with the referee's message."""
     large = referee.taking(True)
     programs = [large] if referee.is_large or LARGE_NOTE in notes_of(text) else [referee, large]

@@ -1,4 +1,4 @@
-"""Explains why the referee refuses a ground description. The referee itself reports the place of only one sentence."""
+"""Explains why the referee refuses a ground GDL file. The referee itself reports the place of only one sentence."""
 
 import itertools
 from collections.abc import Iterator
@@ -38,7 +38,7 @@ def cycles(rules: list[Rule]) -> Iterator[list[int]]:
 
 
 def why_refused(text: bytes) -> list[str]:
-    """Returns the errors in a ground description: a malformed sentence, or the sentences that conflict."""
+    """Returns the errors in a ground GDL text: a malformed sentence, or the sentences that conflict."""
     try:
         read = Sentences(text.decode("latin-1"))
         rules = all_rules(read.sentences)

@@ -116,7 +116,7 @@ class Index:
                 self.table.setdefault(place, []).append(atom)
 
     def alike(self, atom: Expression) -> Iterable[Expression]:
-        """Returns the sentences that may equal `atom`, judging by one path: the path at which the fewest sentences agree with `atom`."""
+        """Returns the sentences that may equal `atom`, judging by one path: the path where the fewest sentences agree with `atom`."""
         # If a sentence has a variable at the path or above it, any value may be there.
         groups = (
             [self.table.get((way[:length], None), ()) for length in range(len(way) + 1)] + [self.table.get((way, word), ())]
@@ -178,7 +178,7 @@ class Description:
                 must_be_literal(literal)
             must_be_atomic(part.atom, True)
         except Refused as why:
-            # A ground description may use these words, but they do not have their GDL-II meaning.
+            # A ground GDL file may use these words, but they do not have their GDL-II meaning.
             if SECRET not in str(why):
                 self.is_well_formed = False
                 return
@@ -188,7 +188,7 @@ class Description:
         self.asks.setdefault(relation(part.atom), set()).update(relation(part.atom) for part in asked)
 
     def needed(self) -> set[Relation]:
-        """Returns the relations that define the game, and the relations on which these depend."""
+        """Returns the relations that define the game, and the relations that these depend on."""
         return OWN | reached(self.asks, OWN)
 
     def told_places(self, parts: list[Part]) -> dict[tuple[int, Way], str]:
@@ -201,7 +201,7 @@ class Description:
 
 
 def member_starts(text: str, at: int, ways: set[tuple]) -> dict[tuple, int]:
-    """Returns the indices at which the members at these paths of a sentence begin."""
+    """Returns the indices where the members at these paths of a sentence begin."""
     indices, way = {}, []
     for token in TOKEN.finditer(text, at):
         if token[0] == ")":
@@ -391,7 +391,7 @@ class Search:
 
 
 class Suspicions(NamedTuple):
-    """The suspicious sentences, in lines, and the reason why the check is incomplete. If the check is complete, the reason is empty."""
+    """A line for each suspicious sentence, and the reason why the check is incomplete. If the check is complete, the reason is an empty text."""
 
     lines: list
     cut: str

@@ -63,7 +63,7 @@ class Program:
         return self.made[relation, known]
 
     def circle(self, relation: Relation) -> tuple[str, int]:
-        """Returns the name of the function that derives the cycle to which this relation belongs, and the relation's index in that cycle."""
+        """Returns the name of the function that derives the cycle of this relation, and the relation's index in that cycle."""
         circle = self.relations.circles[relation]
         if circle not in self.made:
             self.made[circle] = name = self.fresh("c")

@@ -81,7 +81,7 @@ class Following:
         raise Differs("\n".join(lines or [f"{when} contains a term twice"]))
 
     def cited(self, relation: Relation, arguments: Sequence[Term], state: State, moves: Sequence[Term] = ()) -> str:
-        """Returns the beginning of a clause that cites the sentences by which an atomic sentence is derived in a state, such as `sentence 3
+        """Returns the beginning of a clause that cites the sentences that derive an atomic sentence in a state, such as `sentence 3
         gives`."""
         numbers = self.game.sources(relation, arguments, state, self.own_order(moves))
         return " and ".join(f"{self.game.cited(number)} gives" for number in numbers[:MOST_TOLD]) or "the description gives"

@@ -19,7 +19,7 @@ MOST_CALLS = 20_000
 
 
 class Game:
-    """Interprets a description. A state is a set of terms. For a ground description, legal moves are in the order of its rules."""
+    """Interprets a description. A state is a set of terms. For ground GDL, legal moves are in the order of its rules."""
 
     def __init__(self, text: str, takes_bytes: bool = False) -> None:
         self.text, self.is_ground = text, not has_variables(text)

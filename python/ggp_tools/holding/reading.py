@@ -1,7 +1,7 @@
 """Parses the rules of a description for the interpreter.
 
 The classes below are the conditions of rules. Only `Asked` and `Same` can be negated. If an `or` stays a condition, other conditions of the
-rule bind all of its variables. In a ground description, each atomic sentence becomes a relation."""
+rule bind all of its variables. In ground GDL, each atomic sentence becomes a relation."""
 
 from collections.abc import Iterator
 from functools import lru_cache
@@ -115,7 +115,7 @@ def rules_of(number: int, sentence: Expression, names: Iterator[str]) -> list[Ru
 
 
 def one_by_one(rules: list[Rule]) -> list[Rule]:
-    """Turns each atomic sentence in the conditions of a ground description into a relation."""
+    """Turns each atomic sentence in the conditions of ground GDL into a relation."""
     return [rule._replace(body=tuple(map(alone, rule.body))) for rule in rules]
 
 

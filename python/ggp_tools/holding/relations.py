@@ -28,7 +28,7 @@ class Relations:
             self.take(set(group))
 
     def source(self, head: Relation, asked: Relation) -> int:
-        """Returns the first sentence in which one relation uses another."""
+        """Returns the first sentence where one relation uses another."""
         return next(rule.sentence for rule in self.rules[head] if any(condition.relation == asked for condition in all_asked(rule.body)))
 
     def take(self, group: set[Relation]) -> None:

@@ -3,10 +3,10 @@
     ggp-human [--port P] [--bind ADDRESS] [--referee ADDRESS].. [--board hex]
 
 The referee reaches this player at `NAME@HOST:P`, like any other player. The command prints the address of a page: open this address in a browser. The
-address contains a token, without which nobody can see the page or make a move. Until the page is open, the player answers INFO with `busy`, and START
-waits. The page shows the board, the clock, the last moves and replaced moves. To move, click on the places or the column of the move, or on its
-button. While the page is open, the player makes a move without asking if no other move is legal. The rules may have variables (`--player-rules` of
-the referee).
+address contains a token. Only browsers that have it can see the page and make moves. Until the page is open, the player answers INFO with `busy`,
+and START waits. The page shows the board, the clock, the last moves and replaced moves. To move, click on the places or the column of the move,
+or on its button. While the page is open, the player makes a move without asking if no other move is legal. The rules may have variables
+(`--player-rules` of the referee).
 """
 
 import argparse

@@ -246,7 +246,7 @@ class Server(ThreadingHTTPServer):
 
     def put_in_order(self, asked: Request) -> None:
         """Makes a message wait for the one before it if both had to wait until they were accepted, for example because this computer was asleep. A
-        connection on which nothing has arrived yet delays no message, because a browser may open it in advance."""
+        connection that has not received anything yet delays no message, because a browser may open it in advance."""
         asked.before = self.last and self.last.is_taken
         if select.select([asked.connection], [], [], 0)[0]:
             self.last = asked

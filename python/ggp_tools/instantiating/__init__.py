@@ -1,1 +1,1 @@
-"""Grounds games: makes a ground description from a description with variables."""
+"""Grounds games: makes a ground GDL file from a GDL file with variables."""

@@ -15,13 +15,13 @@ SECONDS = 60
 # The time limit of the search for suspicious sentences, and the maximum number of lines that are printed.
 SECONDS_OF_SEARCH, MOST_SUSPICIONS = 5, 20
 HELP = (
-    "Reads the description of a game with variables, and writes a ground description of the same game, for --rules-file of ggp_manager. "
+    "Reads a GDL file with variables, and writes a ground GDL file of the same game, for --rules-file of ggp_manager. "
     "It reports its steps on standard error. It needs the grounder gringo."
 )
 
 
 def write_player_rules(made: Making, file: str) -> None:
-    """Writes the description with variables, and reports its length."""
+    """Writes the GDL file with variables for players, and reports its length."""
     text = text_for_players(made.sentences, [rule.head for rule in made.ground_rules])
     if len(text) > MOST["bytes"]:
         raise Refused(f"nothing is written, because the text for players exceeds the limit: {len(text):,} bytes, but at most {MOST['bytes']:,} are allowed")
@@ -41,8 +41,8 @@ def arguments() -> argparse.Namespace:
     how.add_argument("--unfolded", dest="folding", action="store_const", const=NEVER, help="do not factor it")
     text = "split rules into parts with auxiliary relations (default: if there are many ground rules)"
     words.add_argument("--split", action="store_true", help=text)
-    words.add_argument("--player-rules", metavar="FILE", help="write the description with variables to this FILE, for players")
-    words.add_argument("file", nargs="?", default="-", metavar="FILE", help="the description with variables (default: standard input, also as `-`)")
+    words.add_argument("--player-rules", metavar="FILE", help="write a GDL file with variables to this FILE, for players")
+    words.add_argument("file", nargs="?", default="-", metavar="FILE", help="the GDL file with variables (default: standard input, also as `-`)")
     return words.parse_args()
 
 
@@ -53,7 +53,7 @@ def say_suspicions(text: bytes) -> None:
 
 
 def perform(asked: argparse.Namespace) -> int:
-    """Writes the ground description, or reports why it cannot be made."""
+    """Writes the ground GDL file, or reports why it cannot be made."""
     with opened(asked.file) as file:
         data = file.read()
     made = Making(data.decode("latin-1"), asked.seconds, asked.folding, asked.split, asked.large)

@@ -96,7 +96,7 @@ class Folded:
     # ---- Origins ---------------------------------------------------------------------------------
 
     def costs(self, is_bytes: bool) -> Counter[int]:
-        """Returns for each sentence of the description how many bytes or sentences of the output come from it."""
+        """Returns how many bytes or sentences of the output come from each sentence of the description."""
         costs, asked_by, known = Counter(), self.asked_by(), {}
         for head, bodies in self.bodies.items():
             for body in bodies:
@@ -125,7 +125,7 @@ class Folded:
         return known[part]
 
     def take_origins(self, head: int, body: Formed, new: Formed, by: dict[int, int]) -> None:
-        """Records the origins of a body in which heads were replaced with formulas. The added bytes come from the rules of these heads."""
+        """Records the origins of a body whose heads were replaced with formulas. The added bytes come from the rules of these heads."""
         own = self.origins[head][new]
         own.update(scaled(self.origins[head][body], self.sentence_size(head, body)))
         grown = self.sentence_size(head, new) - self.sentence_size(head, body)
@@ -418,7 +418,7 @@ class Folded:
     # ---- Output ----------------------------------------------------------------------------------
 
     def written(self) -> Iterator[tuple[int, Expression]]:
-        """Yields each sentence with the number of the sentence from which it was made."""
+        """Yields each sentence with the number of the sentence that it was made from."""
         for head, bodies in self.bodies.items():
             atom = self.formulas.nodes[head][1]
             for body in bodies:
@@ -434,7 +434,7 @@ def scaled(shares: Mapping[int, float], size: float) -> dict[int, float]:
 
 def merged(bodies: list[Formed], formulas: Formulas, origins: dict[Formed, Counter[int]]) -> list[Formed]:
     """As long as two bodies differ in only one literal, merges them into one body with an `or`. A merged body has the origins of all bodies
-    from which it was made."""
+    that it was made from."""
     while True:
         groups, known = {}, set(bodies)
         for body in bodies:

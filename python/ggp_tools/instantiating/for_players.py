@@ -1,4 +1,4 @@
-"""Writes the description with variables for players. Players' programs may read `base` and `input` in this description."""
+"""Writes a GDL text with variables for players. Players' programs may read `base` and `input` in this text."""
 
 from ggp_tools.gdl import Literal, each_of, ways_of
 from ggp_tools.instantiating.limits import atoms_of
@@ -7,7 +7,7 @@ from ggp_tools.kif import Expression, grouped, head_of, relation, spelled
 
 def text_for_players(sentences: list[Expression], ground_heads: list[Expression]) -> str:
     """Returns one sentence on each line, in canonical text and without `and`. Roles that rules derive become facts, in the order of the
-    ground description. If no sentence mentions `base`, adds a fact for each possible term of a state; if none mentions `input`, adds a fact
+    ground rules. If no sentence mentions `base`, adds a fact for each possible term of a state; if none mentions `input`, adds a fact
     for each possible move. If a sentence mentioned such a relation, the added facts could change the game."""
     mentioned = {relation(atom) for sentence in sentences for atom in atoms_of(sentence)}
     heads = grouped(ground_heads, relation)

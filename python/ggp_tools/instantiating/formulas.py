@@ -91,7 +91,7 @@ class Formulas:
         return [number]
 
     def allowed(self, number: int) -> tuple[Expression, frozenset[int]] | None:
-        """If a formula is only about the moves of one role, returns the role and the moves for which the formula is true. Otherwise returns None."""
+        """If a formula is only about the moves of one role, returns the role and the moves that make the formula true. Otherwise returns None."""
         node = self.nodes[number]
         if node[0] == "not":
             inner = self.allowed(node[1])
@@ -145,7 +145,7 @@ class Formulas:
         return "or", *map(self.expression, node[1])
 
     def replaced(self, number: int, known: dict[int, int], is_simplified: bool) -> int:
-        """Returns a formula in which each part that `known` contains is replaced. Results are also cached in `known`. If `is_simplified` is
+        """Replaces each part of a formula that `known` contains. Results are also cached in `known`. If `is_simplified` is
         set, the result is simplified."""
         if number not in known:
             node = self.nodes[number]

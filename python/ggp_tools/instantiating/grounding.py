@@ -44,7 +44,7 @@ def shortened(body: Body, can_be: set[Expression]) -> Body | None:
 
 
 def needed(rules: list[Rule]) -> list[Rule]:
-    """Returns the rules of the game's own relations, and the rules on which these depend."""
+    """Returns the rules of the game's own relations, and the rules that these depend on."""
     asks = {head: [literal.atom for rule in of_head for literal in rule.body] for head, of_head in grouped(rules, attrgetter("head")).items()}
     own = [head for head in asks if relation(head)[0] in GAME]
     heads = {*own, *reached(asks, own)}

@@ -11,11 +11,11 @@ from ggp_tools.printable import counted
 MOST = {"sentences": 8192, "atomic sentences": 16384, "roles": 16, "moves": 4096, "bytes": 1048576, "levels": MOST_LEVELS}
 # The limits of ggp_manager --large.
 LARGE = {**MOST, "sentences": 262144, "atomic sentences": 262144, "bytes": 16777216}
-# The first comment of a ground description that exceeds the usual limits.
+# The first comment of a ground GDL file that exceeds the usual limits.
 LARGE_NOTE = "large = true: this exceeds the usual limits of ggp_manager, which accepts it with --large"
 # The longest argument of a command on Linux, without the final NUL byte.
 MOST_IN_A_WORD = 131071
-# A sentence of the output, with the number of the sentence of the description from which it was made.
+# A sentence of the output, with the number of the sentence of the description that it was made from.
 Numbered = tuple[int, Expression]
 # The name, the value and the limit of a quantity.
 Figure = tuple[str, int, int]
@@ -78,7 +78,7 @@ def figures(written: list[Numbered], size: int) -> Iterator[Figure]:
 
 
 def costs_of(written: list[Numbered], is_bytes: bool) -> Counter[int]:
-    """Returns for each sentence of the description how many bytes or sentences of the output come from it, without factoring."""
+    """Returns how many bytes or sentences of the output come from each sentence of the description, without factoring."""
     costs = Counter()
     for number, sentence in written:
         costs[number] += len(spelled(sentence)) + 1 if is_bytes else 1

@@ -38,7 +38,7 @@ class Form(NamedTuple):
 
 
 def forms(rules: list[Rule], is_whole: bool, is_split: bool) -> list[Form]:
-    """Returns the forms in the order in which they are tried: the unchanged description if it has few ground rules, the description with
+    """Returns the forms in the order of the attempts: the unchanged description if it has few ground rules, the description with
     split rules, and the unchanged description with any number of ground rules. If only one form is requested, returns only that form."""
     whole, parts = Form(rules, gringo.MOST_INSTANCES), split(rules)
     if is_whole or len(parts) == len(rules):
@@ -49,7 +49,7 @@ def forms(rules: list[Rule], is_whole: bool, is_split: bool) -> list[Form]:
 
 
 class Written(NamedTuple):
-    """A ground description: its sentences, each with the number of the sentence from which it was made; its text; the limited quantities;
+    """A ground GDL text: its sentences, each with the number of the sentence that it was made from; its text; the limited quantities;
     the notes at its top; the factored game, if any; and whether the large limits apply."""
 
     sentences: list
@@ -87,7 +87,7 @@ class Making:
         self.notes, self.best, self.hopeless, self.known, self.count, self.is_unrolled = [], None, None, [], 0, False
 
     def run(self) -> str:
-        """Returns the ground description, or refuses the description. The limit of processor time applies to this process and to the grounder
+        """Returns the ground GDL text, or refuses the description. The limit of processor time applies to this process and to the grounder
         separately."""
         self.began = time.monotonic()
         try:
@@ -203,7 +203,7 @@ class Making:
     # ---- Output ----------------------------------------------------------------------------------
 
     def written(self, rules: list[Rule]) -> Written:
-        """Returns the ground description that these rules make. Leaves it unfactored if it is within the usual limits. If factoring it to
+        """Returns the ground GDL text that these rules make. Leaves it unfactored if it is within the usual limits. If factoring it to
         within the usual limits takes too much work, but it is within the large limits, leaves it unfactored unless it is long and can be
         made shorter."""
         plain = self.as_written([(rule.sentence, grounding.sentence_of(rule)) for rule in rules])

@@ -74,7 +74,7 @@ def halves(whole: Expression, first: Expression, second: Expression) -> bool:
 
 
 def last_round(circle: list[Expression], rules_for: RulesFor) -> int:
-    """Returns the number of the last round in which a new sentence may be derived."""
+    """Returns the number of the last round that may derive a new sentence."""
     if is_halved(circle, rules_for):
         return (len({term for atom in circle for term in atom[1:]}) - 1).bit_length()
     steps = steps_of(circle, rules_for)
@@ -84,7 +84,7 @@ def last_round(circle: list[Expression], rules_for: RulesFor) -> int:
 
 
 def steps_of(circle: list[Expression], rules_for: RulesFor) -> dict[Expression, set[Expression]]:
-    """Returns, for each sentence, the sentences from which it can be derived. Returns None if a rule uses several sentences of the cycle,
+    """Returns, for each sentence, the sentences that it can be derived from. Returns None if a rule uses several sentences of the cycle,
     or if the further conditions are not always the same."""
     members, steps = set(circle), {}
     for atom in circle:
@@ -102,7 +102,7 @@ def steps_of(circle: list[Expression], rules_for: RulesFor) -> dict[Expression, 
 
 
 def cliques(circle: list[Expression], steps: dict[Expression, set[Expression]]) -> list[list[Expression]]:
-    """Splits the sentences into sets in which each sentence can be derived from every other one."""
+    """Splits the sentences into sets where each sentence can be derived from every other one."""
     left, cliques_found = dict.fromkeys(circle), []
     while left:
         clique = [next(iter(left))]

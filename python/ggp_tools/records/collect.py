@@ -15,7 +15,7 @@ Lines of call logs are skipped. Options may come anywhere. RULES is a directory 
 A record belongs to the game that has its roles and its first state. --large allows large rules.
 
 `check` prints a line for each record: the file, the number of the line, the match, the game and the verdict, separated by tabs. With
---explain, the lines below an unlawful record say what was expected and what was found.
+--explain, the lines below an unlawful record give the expected and the found values.
 
 `sqlite` and `csv` write tables of all records. `lawful` is 1 or 0, and `copy_of` has the number of an earlier record with the same bytes.
 The views `counted_players` and `counted_moves` of the database have each lawful record once, and no other records.

@@ -1,4 +1,4 @@
-"""Makes the ground description of Countdown, the game that is built into `ggp_manager`, for a heap of any size."""
+"""Makes the ground GDL text of Countdown, the game that is built into `ggp_manager`, for a heap of any size."""
 
 # The rules that do not depend on the size of the first heap.
 RULES = """

@@ -18,7 +18,7 @@ class Exchanges:
         # By its kind, the text of the last message. If the match is not over, there is none.
         self.ends = completed if record["phase"] in COMPLETED else aborted if record["phase"] in ABORTED else {}
         errors = [[turn[role] for turn in record["errors"]] for role in range(len(self.players))]
-        # The number of turns in which each role was asked for a move. A retired role stays retired.
+        # The number of turns when each role was asked for a move. A retired role stays retired.
         self.asked = [turns.index("RT") if "RT" in turns else len(turns) for turns in errors]
 
     def text(self, kind: str, joint: str = "") -> str:

@@ -1,4 +1,4 @@
-"""Explains why a record is not lawful: what was expected, and what was found."""
+"""Explains why a record is not lawful: prints the expected and the found values."""
 
 import argparse
 import contextlib
@@ -259,7 +259,7 @@ def parser() -> argparse.ArgumentParser:
     reader.add_argument("--lines", action="store_true", help="each line is a record")
     reader.add_argument("--large", action="store_true", help="allow a large description")
     game = reader.add_mutually_exclusive_group(required=True)
-    game.add_argument("--rules-file", metavar="FILE", help="the ground description of the game")
+    game.add_argument("--rules-file", metavar="FILE", help="the ground GDL file of the game")
     game.add_argument("--countdown", metavar="N", type=whole(1, 100), help="the game is Countdown, from a heap of N (1 to 100)")
     return reader
 

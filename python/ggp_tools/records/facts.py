@@ -22,7 +22,7 @@ TWO_RECORDS, TWO_LOGS = "several matches have this id", "several matches of the 
 
 
 def description_sums(rules: str, descriptions: str | None) -> dict[str, str]:
-    """Returns, for each game, the checksum of the description from which its rules were made. If `descriptions` names a directory, the
+    """Returns, for each game, the checksum of the description that its rules were made from. If `descriptions` names a directory, the
     checksums are computed from the files in it. Otherwise they are read from the checksum file in the directory `rules`."""
     if descriptions is not None:
         return {file.stem: sum_of_file(file) for file in sorted(pathlib.Path(descriptions).iterdir()) if file.suffix == ".kif" and file.is_file()}

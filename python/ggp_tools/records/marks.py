@@ -34,7 +34,7 @@ COMPOUND = re.compile(rf"({'|'.join(SIDES)})[-_]?({'|'.join(sorted(PIECES))})")
 
 @dataclass(frozen=True)
 class Mark:
-    """The content of a cell: a text, and the side to which it belongs, if any. Glyphs are larger than words."""
+    """The content of a cell: a text, and the side that it belongs to, if any. Glyphs are larger than words."""
 
     text: str
     side: str = ""

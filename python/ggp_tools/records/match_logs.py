@@ -101,7 +101,7 @@ class Beginning:
         return messages
 
     def times(self) -> tuple[str | None, str | None, str | None]:
-        """Returns when the run began, when it ended, and on which host."""
+        """Returns when the run began and ended, and its host."""
         began = None if self.began is None else moment_at(self.began / 1_000)
         return began, moment_at(self.ended / 1_000) if self.ended else None, self.host
 

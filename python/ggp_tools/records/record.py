@@ -18,7 +18,7 @@ COMPLETED, ABORTED = ("stopping", "finished"), ("aborting", "aborted")
 PHASES = ("starting", "playing", *COMPLETED, *ABORTED)
 ERRORS = ("", "TO", "CE", "RT", "IL ?")
 CAUSE = re.compile(r"(asked|toolong|allretired)|(nolegal|nogoal) (0|[1-9][0-9]?)")
-# A line of a call log, in the form that the referee writes and reads. A line that was cut off and to which a record was appended does not
+# A line of a call log, in the form that the referee writes and reads. A line that was cut off and has a record appended to it does not
 # match, because no reply ends like a record.
 ACCOUNT_LINE = re.compile(rb"[0-9]+\t(?:open|strict|next|submit|miss|query|abort)(?: [^\t]*)?\t[^\t]*[0-9A-Za-z)]")
 LONGEST_EXPRESSION, MOST_OF_VALUE, MOST_OF_ROLES = 8_192, 80, 1_000

@@ -15,7 +15,7 @@ from typing import NamedTuple
 
 from driving.asking import body_of
 
-# A game of two turns, in which the only role has one move.
+# A game of two turns, where the only role has one move.
 RULES = "(role ann) (init a) (legal ann go) (<= (next b) (true a)) (<= (next c) (true b)) (<= terminal (true c)) (goal ann 100)"
 PATIENCE = 300
 # A firewall's rule for a port applies to IPv4 and to IPv6, so no two players have the same port.

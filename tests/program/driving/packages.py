@@ -29,7 +29,7 @@ def installed(text: str) -> dict[str, Package]:
 
 
 def closure(wanted: typing.Iterable[str], known: dict[str, Package]) -> list[str]:
-    """Returns the packages `wanted`, and all installed packages on which these packages depend."""
+    """Returns the packages `wanted`, and all installed packages that these packages depend on."""
     of_name = {name: package for package, found in known.items() for name in found.provides} | {name: name for name in known}
     found, left = set(), [*wanted]
     while left:

@@ -59,7 +59,7 @@ def test_what_a_command_leaves_running_is_ended() -> None:
 
 
 def test_an_interrupt_ends_all() -> None:
-    # Under nohup, this process ignores interrupts, and so does the script.
+    # Under nohup, this process and the script ignore interrupts.
     script = (
         "import os, signal, threading\nfrom jobs import Job, Jobs\nsignal.signal(signal.SIGINT, signal.default_int_handler)\n"
         "threading.Timer(1, lambda: os.kill(os.getpid(), signal.SIGINT)).start()\n"

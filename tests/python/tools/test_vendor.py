@@ -1,4 +1,4 @@
-"""What `tools/vendor` does not change in the repository to which it copies crates."""
+"""The files that `tools/vendor` does not change in the repository that it copies crates to."""
 import os
 import pathlib
 import subprocess
