@@ -3,6 +3,7 @@
 import asyncio
 import contextlib
 import dataclasses
+import errno
 import gc
 import http.client
 import inspect
@@ -402,6 +403,24 @@ class Pages(Served):
             self.look()
         self.assert_first("2 of 2 matches are over.")
         self.assertTrue(self.next_event(events)["reload"])
+
+    def test_a_new_plan_is_shown_although_the_open_matches_can_not_be_listed(self):
+        *begun, new = self.plan.matches
+        self.site = self.server.site = LiveSite(dataclasses.replace(self.plan, matches=begun), Referee(program()), lambda: self.plan)
+        listed = os.listdir
+
+        def refuse(path):
+            if path == self.plan.folder.open:
+                raise PermissionError(errno.EACCES, os.strerror(errno.EACCES))
+            return listed(path)
+
+        with patch.object(live.os, "listdir", refuse):
+            self.look()
+            self.change_plan([*begun, new])
+            end(self.plan, begun[0], record_of(begun[0], [], [], [50, 50]))
+            self.look()
+            self.assertIn("1 of 6 matches", self.page("/"))
+            self.assertIn("The directory open can't be read", self.page("/").replace("&#39;", "'"))
 
     def pages(self, paths):
         """Returns what is at these paths, except the time of day, the versions and the visitors."""

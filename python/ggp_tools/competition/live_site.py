@@ -260,10 +260,11 @@ class LiveSite:
         self.delay.coming = {match.id: match for _, plan in self.plans if isinstance(plan, Plan) for match in plan.matches}
 
     def is_read(self) -> bool:
-        """Returns whether the newest plan can be shown: its records are read, or a match has begun that the pages show as over or as another one."""
+        """Returns whether the newest plan can be shown: its records are read, or a match has begun that the pages show as over or as another one. The
+        directory of the open matches may stay unreadable, for example because another user runs `serve`."""
         shown, read = self.reader, self.newest
         is_other = any(name in shown.known and shown.known[name].line() != read.known[name].line() for name in (*read.open, *read.unread))
-        return is_other or not read.open.keys().isdisjoint(shown.results) or not (read.unread or read.unlisted)
+        return is_other or not read.open.keys().isdisjoint(shown.results) or not (read.unread or self.plan.folder.records.name in read.unlisted)
 
     def count_results(self) -> None:
         """Computes the tables if results have changed, but not too often."""
