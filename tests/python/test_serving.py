@@ -462,6 +462,26 @@ class Pages(Served):
                 self.assertIn(f"these pages show the previous plan: {said}", text, place)
                 self.assertFalse(str(path) in text or "/opt" in text, place)
 
+    def test_a_plan_that_can_not_be_read_is_read_again(self):
+        plan, fault = dataclasses.replace(self.plan), NoReferee("ggp_manager is not an executable program")
+        self.site.read_plan = Mock(side_effect=[fault, fault, plan])
+        self.plan.folder.schedule.write_text("another")
+        with patch.object(sys, "stderr", io.StringIO()) as told:
+            self.look()
+            self.look()
+            self.assertEqual(self.site.read_plan.call_count, 1)
+            with patch.object(live_site, "RETRY", -1), patch.object(live_site, "SHARE", 0):
+                self.site.next_reading = 0.0
+                self.look()
+                self.assertIs(self.site.plan, self.plan)
+                self.assertIn("these pages show the previous plan", self.page("/"))
+                self.look()
+                self.look()
+        self.assertEqual(told.getvalue().count(str(fault)), 1)
+        self.assertIs(self.site.plan, plan)
+        self.assertNotIn("these pages show the previous plan", self.page("/"))
+        self.assertEqual(self.site.read_plan.call_count, 3)
+
     def test_a_plan_that_changes_while_it_is_read(self):
         read = []
 
