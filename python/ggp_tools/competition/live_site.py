@@ -240,8 +240,8 @@ class LiveSite:
             raise faults[0]
 
     def update_plan(self) -> None:
-        """Reads the plan if it has changed. Reads it again if it could not be read, because the reason may pass although no file of the plan changes. When
-        the new plan may be shown, begins to read its matches."""
+        """Reads the plan if it has changed, or if it could not be read before, because the reason may have passed. When the new plan may be shown, begins
+        to read its matches."""
         stamp, began = plan_stamp(self.plan.folder), time.monotonic()
         if stamp != self.plan_stamp or self.refusal and began >= self.next_reading:
             self.plan_stamp = stamp
