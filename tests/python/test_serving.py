@@ -386,6 +386,15 @@ class Pages(Served):
         self.look()
         self.assert_first("5 of 6 matches are over.", f"{begun[0].players[0]} won")
 
+    def test_the_last_board_of_a_match_stays_after_a_plan_that_follows_from_its_result(self):
+        first, *others = self.plan.matches
+        log = begin(self.plan, first, started(first))
+        self.look()
+        end(self.plan, first, record_of(first, [["(take 2)", "noop"]], [["", ""]], [50, 50]), log.read_text())
+        self.change_plan([first, *others[1:]])
+        self.look()
+        self.assertIsNotNone(parsed(self.page("/")).find(id=f"board-{first.id}"))
+
     def test_the_old_plan_is_shown_until_the_records_of_the_new_one_are_read(self):
         for match in self.plan.matches:
             end(self.plan, match, record_of(match, [], [], [50, 50]))
