@@ -176,9 +176,14 @@ class ByRounds(unittest.TestCase):
         self.assert_refused("schedule.tsv does not agree with")
         # The message says why a record does not count.
         right = first.read_text()
-        for text, why in ((right.replace('"matchId"', '"wrong": 1, "matchId"'), "not lawful: goals"), (right.replace('"strikes": 0', '"strikes": 1'), "its strikes is 1, but competition.toml has 0")):
+        for text, why, unchecked in (
+            (right.replace('"matchId"', '"wrong": 1, "matchId"'), "not lawful: goals", "schedule.tsv does not agree with"),
+            (right.replace('"strikes": 0', '"strikes": 1'), "its strikes is 1, but competition.toml has 0", "the record of cup-001 does not count"),
+        ):
             first.write_text(text)
             self.assert_refused(f"{first}: {why}")
+            # `serve` does not check the records, which may take long.
+            self.assert_refused(unchecked, lambda: read_plan(self.folder.path, REFEREE, checks_records=False))
         first.write_text(right)
         self.folder.record("cup-003").write_text(json.dumps(record(plan.matches[2], [0, 100])) + "\n")
         first.unlink()

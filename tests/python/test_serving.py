@@ -3,6 +3,7 @@
 import asyncio
 import contextlib
 import dataclasses
+import errno
 import gc
 import http.client
 import inspect
@@ -385,6 +386,15 @@ class Pages(Served):
         self.look()
         self.assert_first("5 of 6 matches are over.", f"{begun[0].players[0]} won")
 
+    def test_the_last_board_of_a_match_stays_after_a_plan_that_follows_from_its_result(self):
+        first, *others = self.plan.matches
+        log = begin(self.plan, first, started(first))
+        self.look()
+        end(self.plan, first, record_of(first, [["(take 2)", "noop"]], [["", ""]], [50, 50]), log.read_text())
+        self.change_plan([first, *others[1:]])
+        self.look()
+        self.assertIsNotNone(parsed(self.page("/")).find(id=f"board-{first.id}"))
+
     def test_the_old_plan_is_shown_until_the_records_of_the_new_one_are_read(self):
         for match in self.plan.matches:
             end(self.plan, match, record_of(match, [], [], [50, 50]))
@@ -402,6 +412,24 @@ class Pages(Served):
             self.look()
         self.assert_first("2 of 2 matches are over.")
         self.assertTrue(self.next_event(events)["reload"])
+
+    def test_a_new_plan_is_shown_although_the_open_matches_can_not_be_listed(self):
+        *begun, new = self.plan.matches
+        self.site = self.server.site = LiveSite(dataclasses.replace(self.plan, matches=begun), Referee(program()), lambda: self.plan)
+        listed = os.listdir
+
+        def refuse(path):
+            if path == self.plan.folder.open:
+                raise PermissionError(errno.EACCES, os.strerror(errno.EACCES))
+            return listed(path)
+
+        with patch.object(live.os, "listdir", refuse):
+            self.look()
+            self.change_plan([*begun, new])
+            end(self.plan, begun[0], record_of(begun[0], [], [], [50, 50]))
+            self.look()
+            self.assertIn("1 of 6 matches", self.page("/"))
+            self.assertIn("The directory open can't be read", self.page("/").replace("&#39;", "'"))
 
     def pages(self, paths):
         """Returns what is at these paths, except the time of day, the versions and the visitors."""
@@ -442,6 +470,26 @@ class Pages(Served):
                 text = self.page(place)
                 self.assertIn(f"these pages show the previous plan: {said}", text, place)
                 self.assertFalse(str(path) in text or "/opt" in text, place)
+
+    def test_a_plan_that_can_not_be_read_is_read_again(self):
+        plan, fault = dataclasses.replace(self.plan), NoReferee("ggp_manager is not an executable program")
+        self.site.read_plan = Mock(side_effect=[fault, fault, plan])
+        self.plan.folder.schedule.write_text("another")
+        with patch.object(sys, "stderr", io.StringIO()) as told:
+            self.look()
+            self.look()
+            self.assertEqual(self.site.read_plan.call_count, 1)
+            with patch.object(live_site, "RETRY", -1), patch.object(live_site, "SHARE", 0):
+                self.site.next_reading = 0.0
+                self.look()
+                self.assertIs(self.site.plan, self.plan)
+                self.assertIn("these pages show the previous plan", self.page("/"))
+                self.look()
+                self.look()
+        self.assertEqual(told.getvalue().count(str(fault)), 1)
+        self.assertIs(self.site.plan, plan)
+        self.assertNotIn("these pages show the previous plan", self.page("/"))
+        self.assertEqual(self.site.read_plan.call_count, 3)
 
     def test_a_plan_that_changes_while_it_is_read(self):
         read = []

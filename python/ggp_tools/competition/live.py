@@ -372,6 +372,8 @@ class Reader:
         names = [match.id for match in self.plan.matches if match.game in games and match == before.known.get(match.id)]
         self.results = {name: replace(before.results[name], match=self.known[name]) for name in names if name in before.results}
         self.over, self.ended = of_names(before.over, names), of_names(before.ended, names)
+        # The last match of a round may have ended since the earlier plan was read.
+        self.ending = {*before.open, *before.ending}.intersection(names)
         self.faults, self.identities = of_names(before.faults, names), of_names(before.identities, names)
         self.replaced = [move for move in before.replaced if move.match.id in self.results]
 

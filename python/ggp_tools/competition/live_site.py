@@ -31,8 +31,9 @@ from ggp_tools.templating import page
 if typing.TYPE_CHECKING:
     from markupsafe import Markup
 
-# Computing tables takes at most a tenth of the time, and following boards takes at most FOLLOW seconds of each update.
-SHARE, FOLLOW = 10, 0.25
+# Computing tables takes at most a tenth of the time, and following boards takes at most FOLLOW seconds of each update. A plan that can't be read is
+# read again after RETRY seconds or more.
+SHARE, FOLLOW, RETRY = 10, 0.25, 10.0
 # The seconds that a page without viewers is kept, the number of pages that are kept, and the number and the total bytes of the changes that are
 # kept for each page.
 IDLE, MOST_PAGES, MOST_EVENTS, BYTES_OF_EVENTS = 30.0, 200, 60, 1 << 20
@@ -174,6 +175,8 @@ class LiveSite:
         self.plan_stamp, shown = plan_stamp(plan.folder) if stamp is None else stamp, without_new_rounds(plan, delay)
         self.plans: list[tuple[float, Plan | str]] = [] if shown is plan else [(live.clock(), plan)]
         self.trouble = self.fault = ""
+        # Why the plan's files could not be read, and when they are read again.
+        self.refusal, self.next_reading = "", 0.0
         self.begin(Reader(shown, referee, self.delay))
 
     def begin(self, reader: Reader) -> None:
@@ -237,17 +240,18 @@ class LiveSite:
             raise faults[0]
 
     def update_plan(self) -> None:
-        """Reads the plan if it has changed. When the new plan may be shown, begins to read its matches."""
-        stamp = plan_stamp(self.plan.folder)
-        if stamp != self.plan_stamp:
+        """Reads the plan if it has changed, or if it could not be read before, because the reason may have passed. When the new plan may be shown, begins
+        to read its matches."""
+        stamp, began = plan_stamp(self.plan.folder), time.monotonic()
+        if stamp != self.plan_stamp or self.refusal and began >= self.next_reading:
             self.plan_stamp = stamp
             try:
                 self.plans.append((live.clock(), self.read_plan()))
+                self.refusal = ""
             except (Refused, NoReferee, Unchecked, OSError) as why:
-                # The person who runs `serve` gets the whole message.
-                report(f"ggp_competition: the plan has changed, but can't be read, so the pages show the previous one: {why}")
-                reason = reason_for_visitors(self.plan.folder, why)
-                self.plans.append((live.clock(), f"The plan has changed, but can't be read, so these pages show the previous plan: {reason}"))
+                self.refuse_plan(why)
+            ended = time.monotonic()
+            self.next_reading = ended + max(RETRY, SHARE * (ended - began))
         while self.plans and self.plans[0][0] <= live.clock() - self.delay.seconds:
             _, plan = self.plans.pop(0)
             if isinstance(plan, str):
@@ -259,11 +263,22 @@ class LiveSite:
                 self.begin(self.newest)
         self.delay.coming = {match.id: match for _, plan in self.plans if isinstance(plan, Plan) for match in plan.matches}
 
+    def refuse_plan(self, why: Exception) -> None:
+        """Notes why the plan can't be read, unless this is known."""
+        # The person who runs `serve` gets the whole message.
+        refusal = f"ggp_competition: the plan has changed, but can't be read, so the pages show the previous one: {why}"
+        if refusal != self.refusal:
+            self.refusal = refusal
+            report(refusal)
+            reason = reason_for_visitors(self.plan.folder, why)
+            self.plans.append((live.clock(), f"The plan has changed, but can't be read, so these pages show the previous plan: {reason}"))
+
     def is_read(self) -> bool:
-        """Returns whether the newest plan can be shown: its records are read, or a match has begun that the pages show as over or as another one."""
+        """Returns whether the newest plan can be shown: its records are read, or a match has begun that the pages show as over or as another one. The
+        directory of the open matches may stay unreadable, for example because another user runs `serve`."""
         shown, read = self.reader, self.newest
         is_other = any(name in shown.known and shown.known[name].line() != read.known[name].line() for name in (*read.open, *read.unread))
-        return is_other or not read.open.keys().isdisjoint(shown.results) or not (read.unread or read.unlisted)
+        return is_other or not read.open.keys().isdisjoint(shown.results) or not (read.unread or self.plan.folder.records.name in read.unlisted)
 
     def count_results(self) -> None:
         """Computes the tables if results have changed, but not too often."""

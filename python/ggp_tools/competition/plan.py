@@ -353,8 +353,9 @@ def read_rules(folder: Folder, competition: Competition, referee: Referee) -> di
     return rules
 
 
-def read_plan(path: str, referee: Referee) -> Plan:
-    """Reads the plan in a directory. Refuses rules and schedules that differ from what `plan` writes for this competition.toml."""
+def read_plan(path: str, referee: Referee, checks_records: bool = True) -> Plan:
+    """Reads the plan in a directory. Refuses rules and schedules that differ from what `plan` writes for this competition.toml. If the schedule
+    differs, checks all records for a more precise reason, unless `checks_records` is false, because this may take long."""
     folder = Folder(path)
     folder.refuse_old_logs()
     text = read_toml_file(folder.competition)
@@ -371,7 +372,7 @@ def read_plan(path: str, referee: Referee) -> Plan:
             raise refused_plan(folder, folder.schedule)
     except Refused:
         # The schedule may differ because rounds were paired by records that do not count.
-        if is_by_rounds(competition):
+        if checks_records and is_by_rounds(competition):
             _, faults, misfits = check_records(Plan(folder, competition, rules, matches_in(rows_of(folder.schedule), competition)), referee)
             if wrong := [f"{folder.record(match)}: {why}" for match, why in {**faults, **misfits}.items()]:
                 raise Refused("\n".join(wrong)) from None
@@ -387,11 +388,12 @@ def read_plan(path: str, referee: Referee) -> Plan:
 
 
 def refuse_lost_record(folder: Folder, growing: Growing) -> None:
-    """Refuses a schedule with a round that can't be planned again, because a match of the round before it has no record."""
+    """Refuses a schedule with a round that can't be planned again, because a match of the round before it has no record that counts."""
     number = len(growing.rounds.found)
     lost = [match.id for match in growing.of_round(number) if match.counts() and growing.result_of(match) is None]
     if lost:
-        fault = f"{folder.schedule} has round {number + 1}, which was paired by the result of {lost[0]}, but the record of {lost[0]} is missing"
+        what = "does not count" if folder.record(lost[0]).exists() else "is missing"
+        fault = f"{folder.schedule} has round {number + 1}, which was paired by the result of {lost[0]}, but the record of {lost[0]} {what}"
         raise Refused(fault, f"put the record back; if no match of a later round has a record, {WRITES} without these rounds")
 
 

@@ -74,7 +74,8 @@ def run_serve(asked: argparse.Namespace, referee: Referee) -> int:
         needed = asked.connections + OTHER_FILES
         raise Refused(f"--connections {asked.connections} needs {needed} open files, but the system allows only {most} (ulimit -n)")
     stamp = plan_stamp(Folder(asked.folder))
-    site = LiveSite(read_plan(asked.folder, referee), referee, lambda: read_plan(asked.folder, referee), stamp, asked.delay)
+    # No page is served while a changed plan is read.
+    site = LiveSite(read_plan(asked.folder, referee), referee, lambda: read_plan(asked.folder, referee, checks_records=False), stamp, asked.delay)
     site.update()
     asyncio.run(serve(site, asked))
     return 0
