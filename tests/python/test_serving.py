@@ -476,19 +476,19 @@ class Pages(Served):
         self.site.read_plan = Mock(side_effect=[fault, fault, plan])
         self.plan.folder.schedule.write_text("another")
         with patch.object(sys, "stderr", io.StringIO()) as told:
-            self.look()
-            self.look()
+            with patch.object(live_site, "RETRY", 1e9):
+                self.look()
+                self.look()
             self.assertEqual(self.site.read_plan.call_count, 1)
-            with patch.object(live_site, "RETRY", -1), patch.object(live_site, "SHARE", 0):
-                self.site.next_reading = 0.0
+            self.site.next_reading = 0.0
+            with patch.object(live_site, "RETRY", 0):
                 self.look()
-                self.assertIs(self.site.plan, self.plan)
                 self.assertIn("these pages show the previous plan", self.page("/"))
-                self.look()
                 self.look()
         self.assertEqual(told.getvalue().count(str(fault)), 1)
         self.assertIs(self.site.plan, plan)
         self.assertNotIn("these pages show the previous plan", self.page("/"))
+        self.look()
         self.assertEqual(self.site.read_plan.call_count, 3)
 
     def test_a_plan_that_changes_while_it_is_read(self):
