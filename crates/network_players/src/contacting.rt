@@ -331,7 +331,7 @@ fn connect_to<N: Routes + Clock>(
 }
 
 /// Tries each of the addresses once, until one accepts a connection. If an address has accepted a connection before, it comes first, and this
-/// tries the others only while this computer lacks a resource. Without this rule, a player whose host name also has the address of another
+/// tries the others only while this computer lacks a resource other than a network. Without this rule, a player whose host name also has the address of another
 /// player could pass its message on to that player by refusing a connection. On entry, `silent` is the number of addresses that did not answer
 /// in earlier attempts; on return, in these attempts. It is 0 if no further attempts follow.
 fn try_each<N: Routes + Clock>(
@@ -369,7 +369,9 @@ fn try_each<N: Routes + Clock>(
             ContactFault::Late(_) => now = now.saturating_add(1),
             last => fault = fault_so_far(fault, last),
         }
-        if lookup.has_preferred && !matches!(fault, ContactFault::Shortage(_)) {
+        let is_own =
+            matches!(fault, ContactFault::Shortage(shortage) if shortage != Shortage::Network);
+        if lookup.has_preferred && !is_own {
             break;
         }
     }

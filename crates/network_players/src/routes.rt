@@ -14,6 +14,9 @@ use std::net::{IpAddr, Ipv4Addr, Ipv6Addr, Net, SocketAddr, UdpSocket};
 /// `ENETUNREACH` of Linux: no route leads to an address.
 const UNREACHABLE: i32 = 101;
 
+/// How often the way to an address is determined, because a computer with several default routes may use them in turn.
+const MAX_SOURCES: u32 = 8;
+
 /// The address of this computer from which it reaches others of the same family.
 pub(crate) fn any_address(address: &SocketAddr) -> SocketAddr
     ensures { is_ipv4 (socket_ip result) ≡ is_ipv4 (socket_ip address.now) }
@@ -90,26 +93,24 @@ fn lack_of_route<N: Routes>(net: &N, address: &SocketAddr) -> Option<Shortage> {
     }
 }
 
-/// What this computer lacks if it no longer sends to the address from `home`, its own address from which it sent before. A router can change
-/// the routes of IPv6, but it cannot remove an address of this computer within two hours, so for IPv6 only a lost address counts. A route that
-/// refuses only this address does not count.
+/// What this computer lacks if packets to the IPv4 address no longer leave from `home`, its own address from which they left before. A route that
+/// refuses only this address does not count. An IPv6 address does not count, because a router can change routes and addresses of IPv6.
 pub(crate) fn lack_of_home<N: Routes>(
     net: &N,
     home: &SocketAddr,
     address: &SocketAddr,
 ) -> Option<Shortage> {
-    match net.source(address) {
-        Ok(source) if source.ip() == home.ip() => return None,
-        Err(error) if error.raw_os_error() != Some(UNREACHABLE) => return None,
-        _ => {}
+    if !home.ip().to_canonical().is_ipv4() {
+        return None;
     }
-    if home.ip().to_canonical().is_ipv4() {
-        return Some(Shortage::Network);
+    for _ in 0..MAX_SOURCES {
+        match net.source(address) {
+            Ok(source) if source.ip() != home.ip() => {}
+            Err(error) if error.raw_os_error() == Some(UNREACHABLE) => {}
+            _ => return None,
+        }
     }
-    match UdpSocket::bind(net, *home) {
-        Ok(_) => None,
-        Err(error) => Some(route_shortage(&error)),
-    }
+    Some(Shortage::Network)
 }
 
 /// What this computer lacks if it has a default route neither for IPv4 nor for IPv6.
