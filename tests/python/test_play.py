@@ -481,7 +481,8 @@ class Play(InFolder):
             kept = [file for file in (small / "records").glob("*.json") if not file.name.startswith(".")]
             self.assertEqual(status, 1, out)
             self.assertRegex(out, "No space left on device|write fault|the disk is full")
-            self.assertNotIn("begin ", out.partition("no record")[2])
+            # The other open match may have asked its players already.
+            self.assertLessEqual(out.partition("no record")[2].count("begin "), 1)
             self.assertEqual([player.matches for player in self.players], [{}] * 4)
             shutil.rmtree(self.folder)
             shutil.copytree(small, self.folder)
