@@ -23,7 +23,7 @@ pub enum Fault {
     ClosedStream,
     /// The text of the rules is not KIF, or not a ground description.
     BadDescription,
-    /// A file that the command line names for this use cannot be read or written.
+    /// The file with this purpose on the command line cannot be read or written.
     File(NamedFile, FileFault),
     /// The file of the players' rules is not KIF.
     BadPlayerRules,

@@ -25,7 +25,7 @@ pub struct MaxBytes {
 }
 
 impl MaxBytes {
-    /// The limit for a file for which `--large` makes no difference.
+    /// The limit for a file that `--large` does not affect.
     pub fn fixed(bytes: u32) -> MaxBytes
         ensures { result.bytes ≡ bytes }
     {
@@ -69,7 +69,7 @@ pub const MAX_PLAYER_RULES: u32 = 1_048_576;
 /// The largest number of bytes in a line of records or call logs: 64 GiB. No record of a match is that long.
 pub const MAX_LINE: usize = 68_719_476_736;
 
-/// The use for which the command line names a file.
+/// The purpose of a file on the command line.
 #[derive(Clone, Copy)]
 pub enum NamedFile {
     /// The game's rules.
@@ -119,7 +119,7 @@ pub enum FileFault {
     InUse,
     /// The file's incomplete end cannot be moved to another file.
     Unmended,
-    /// The file has a record whose call log is incomplete.
+    /// The file has a record with an incomplete call log.
     Partial,
     /// Another file or stream of the command is the same file.
     Shared,
@@ -177,7 +177,7 @@ fn opening_fault(named: NamedFile, error: io::Error) -> Fault
     }
 }
 
-/// Opens the file at this path. `named` is the use for which the command line names the file.
+/// Opens the file at this path. `named` is the purpose of the file on the command line.
 pub fn opened<F: Files>(files: &F, named: NamedFile, path: &str) -> Result<Counted<F::File>, Fault>
     ensures fault { IfErr result (IsFileFault named) }
     ensures not_size { IfErr result IsNotOfSize }

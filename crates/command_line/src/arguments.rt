@@ -101,7 +101,7 @@ fn seconds<'a>(found: &ArgMatches<'a>, option: &'static str) -> Result<u32, Wron
     Ok(number(found, option, 0, 4_294_967_295)? as u32)
 }
 
-/// The number of consecutive replaced moves after which a role is retired.
+/// The number of consecutive replaced moves that retire a role.
 fn strikes<'a>(found: &ArgMatches<'a>) -> Result<u8, WrongValue<'a>> {
     Ok(number(found, "strikes", 0, 255)? as u8)
 }

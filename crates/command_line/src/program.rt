@@ -344,7 +344,7 @@ const CHECK: [Argument; 11] = [
     PLAYER,
 ];
 
-/// A command as data, from which `clap`'s `Command` is built.
+/// A command as data. `command` builds the `Command` of `clap` from it.
 #[derive(Clone, Copy)]
 pub struct CommandForm {
     name: &'static str,

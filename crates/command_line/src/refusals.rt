@@ -29,8 +29,8 @@ fn is_option(argument: &str, option: &str) -> bool {
     }
 }
 
-/// Whether a command line has a command or an option with which the program always prints an explanation before the error, even if standard
-/// error is not a terminal.
+/// Whether a command line has one of the `EXPLAINED_COMMANDS` or `EXPLAINED_OPTIONS`. If so, the program prints an
+/// explanation before the error, even if standard error is not a terminal.
 pub fn always_explains(arguments: &[String]) -> bool {
     let is_own = |argument: &String| EXPLAINED_OPTIONS
         .iter()
@@ -44,8 +44,8 @@ pub fn always_explains(arguments: &[String]) -> bool {
     }
 }
 
-/// Whether a command line has `--why` or `--json`. With either, the program prints the explanation even if standard error
-/// is not a terminal, and its exit status says whether the answer is no. Arguments after `--` are not options.
+/// Whether a command line has `--why` or `--json`. With either, the program prints the explanation even if standard error is not
+/// a terminal, and its exit status is 1 for a negative answer and 2 for any other error. Arguments after `--` are not options.
 pub fn asks_why(arguments: &[String]) -> bool {
     for argument in arguments {
         match argument.as_str() {
@@ -105,7 +105,7 @@ fn wrong_form<'a>(alloc: Global, arguments: &'a [&'a str]) -> Result<String, All
     }
 }
 
-/// The message for a user whose command line is refused, with the usage. `fault` is the error of `read_arguments` for the same arguments.
+/// The error message for a refused command line, with the usage. `fault` is the error of `read_arguments` for the same arguments.
 pub fn refusal<'a>(
     alloc: Global,
     arguments: &'a [&'a str],

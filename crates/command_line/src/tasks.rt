@@ -3,7 +3,7 @@ ghost use Rattle.std.specs.Prelude.{◌≤◌};
 
 use match_plans::{CheckPlan, GameSource, GameTask, MatchPlan, PlayerAddress, SeasonForm};
 
-/// What the program should do. The texts borrow from the command line.
+/// A task for the program. The texts borrow from the command line.
 #[derive(Drop)]
 pub enum Task<'a> {
     /// Runs a command on one game, without players.
@@ -74,7 +74,7 @@ pub struct GameOptions<'a> {
     pub log: Option<&'a str>,
 }
 
-/// The match to play, and whether its call log is printed too.
+/// The match to play, and whether to print its call log too.
 #[derive(Drop)]
 pub struct RunPlan<'a> {
     pub plan: MatchPlan<'a>,
@@ -90,8 +90,8 @@ pub struct SeasonPlan<'a> {
     pub schedule: Option<&'a str>,
     /// A file of records. `season` does not play the matches of these records again.
     pub done: Option<&'a str>,
-    /// A file to which `season` appends the records instead of printing them. `season` does not play the matches of the
-    /// file's records again.
+    /// A file for the records. `season` appends them to it instead of printing them. `season` does not play the matches
+    /// of the file's records again.
     pub records: Option<&'a str>,
 }
 

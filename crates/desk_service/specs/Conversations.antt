@@ -6,7 +6,7 @@ use Rattle.desk_service.specs.declared.ending.Ending.{Ending}
 use Rattle.desk_service.specs.declared.ending.Ending.TheVariants.{Left, Broken, TooLong, Full}
 use Rattle.desk_service.specs.Rows.{last_row}
 
--- the ways in which a read can end a conversation
+-- how a read can end a conversation
 abbrev pub EndsReading : Ending → Type 0
 EndsReading TooLong = ⊥
 EndsReading Full = ⊥
@@ -17,8 +17,8 @@ abbrev pub WritesUpTo : Ending → Option (List ℕ) → Option (List ℕ) → L
 WritesUpTo Broken old new text = AppendsPart old new text
 WritesUpTo ending old new text = Appends old new text
 
--- What the client got: the text if the client ended the conversation, a prefix of the text if the connection broke, and otherwise the text
--- and the last row, or a prefix of both.
+-- The client got the text if it ended the conversation, a prefix of the text if the connection broke, and otherwise the
+-- text and the last row, or a prefix of both.
 abbrev pub Says : Ending → Option (List ℕ) → Option (List ℕ) → List ℕ → Type 0
 Says Left old new text = Appends old new text
 Says Broken old new text = AppendsPart old new text

@@ -44,7 +44,7 @@ pub record Answered (legal : Entry Call Reply → Type 0) (line last : LockLineV
   pub begins : BeginsWithLines given rows left
   pub answers : AnswersRows legal line rows text last
 
--- the largest number of calls that may have been made although their replies are not in the text
+-- the largest number of calls that the line may have made without a reply in the text
 abbrev pub unanswered : Ending → ℕ
 unanswered Broken = 1
 unanswered Memory = 1

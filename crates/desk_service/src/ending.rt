@@ -40,7 +40,7 @@ impl Ending {
         }
     }
 
-    /// The report on a conversation that the service ended.
+    /// The report about a conversation that the service ended.
     pub(crate) fn words(self) -> &'static str {
         match self {
             Ending::Full => "ggp_manager: a client was disconnected: the history is full",

@@ -30,7 +30,7 @@ const PATIENCE: u64 = 1;
 const CUT: &str =
     "ggp_manager: the service ended, and cut connections that were still open after 5 seconds";
 
-/// What a service needs: the runtime and the connections.
+/// The runtime and the connections of a service.
 #[derive(Drop)]
 pub struct ServiceSurroundings<'a, R> {
     pub rt: &'a R,
@@ -43,7 +43,7 @@ fn is_shared<T: Sync>(_value: &T)
     ensures { IsSync T.row }
 {}
 
-/// Reads the input to its end, and drops what it reads.
+/// Reads the input to its end, and drops the bytes.
 fn drop_rest<R: Wait, I: Read>(rt: &R, reader: &mut Counted<I>) {
     let mut chunk = [0u8; 1_024];
     for _ in rt.forever() {

@@ -10,7 +10,7 @@ fn fault_of(entry: &[u8], fault: LineFault) -> BadLine {
     BadLine::of(entry, call, fault)
 }
 
-/// Where an entry differs from the correct text, and whether the difference is in the reply.
+/// The first difference between an entry and the correct text: in the call, in the reply, or in the number of fields.
 fn difference(entry: &[u8], right: &[u8]) -> BadLine {
     let mut tabs: usize = 0;
     let mut at = 0;
@@ -44,7 +44,7 @@ fn line_at(text: &[u8], number: u64) -> &[u8] {
     line
 }
 
-/// Appends to `out` what is wrong with the first wrong line of a call log. Line numbers count from 1 and include the
+/// Appends to `out` the explanation of the first wrong line of a call log. Line numbers count from 1 and include the
 /// `before` lines of earlier call logs.
 pub fn push_bad_entry(
     account: &[u8],

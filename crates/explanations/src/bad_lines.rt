@@ -17,8 +17,7 @@ static FORMS: [&str; 7] = [
 /// The explanation of a line of a call log that has too few fields.
 pub const FEWER_FIELDS: &str = "fewer fields than in LINE CALL REPLY, with a tab between each two";
 
-/// What is wrong with a line: the index of the wrong byte, the explanation, and the correct form, with which the
-/// explanation ends.
+/// The error in a line: the index of the wrong byte, the explanation, and the correct form, which ends the explanation.
 #[derive(Clone, Copy)]
 pub struct BadLine {
     pub at: usize,
@@ -35,7 +34,7 @@ impl BadLine {
         }
     }
 
-    /// What is wrong with a line, given the text and the error of its call.
+    /// The error in a line, given the text and the error of its call.
     pub fn of(line: &[u8], call: &[u8], fault: LineFault) -> BadLine {
         let form = match fault.kind {
             FaultKind::FewerWords | FaultKind::MoreWords => form_of(call),
@@ -79,8 +78,8 @@ fn form_of(call: &[u8]) -> &'static str {
 
 const SHOWN: usize = 80;
 
-/// Appends to `out` the beginning of a line, with `?` for each byte that is not visible and two dots if more bytes
-/// follow, and a line feed.
+/// Appends to `out` the beginning of a line, two dots if more bytes follow, and a line feed. Prints `?` for each byte
+/// that is not visible.
 pub fn push_shown(out: &mut String, line: &[u8]) -> Result<(), AllocError> {
     for byte in line.iter().take(SHOWN) {
         let is_seen = byte.is_ascii_graphic() || *byte == b' ';
@@ -89,7 +88,7 @@ pub fn push_shown(out: &mut String, line: &[u8]) -> Result<(), AllocError> {
     out.push_str(if line.len() > SHOWN { "..\n" } else { "\n" })
 }
 
-/// Appends to `out` what is wrong with the line with this number, counted from 1.
+/// Appends to `out` the explanation of a bad line with this number, counted from 1.
 pub fn push_bad_line(
     out: &mut String,
     number: u64,
@@ -105,7 +104,7 @@ pub fn push_bad_line(
     push_shown(out, line)
 }
 
-/// Appends to `out` what is wrong with the first bad line of a script.
+/// Appends to `out` the explanation of the first bad line of a script.
 pub fn push_first_bad_line(
     alloc: Global,
     script: &[u8],

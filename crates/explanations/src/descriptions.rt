@@ -1,5 +1,5 @@
-//! Explains why a text does not describe a game: the position of its first error, what is wrong, and the sentence at
-//! this position.
+//! Explains why a text does not describe a game: the position of its first error, the message, and the sentence at this
+//! position.
 
 use crate::bad_lines::push_shown;
 use crate::places::Place;
@@ -28,7 +28,7 @@ fn without_comments(alloc: Global, text: &[u8]) -> Result<Vec<u8>, AllocError> {
     Ok(bare)
 }
 
-/// The offsets at which the sentences of a text without comments begin.
+/// The offset of each sentence in a text without comments.
 fn starts_of(alloc: Global, text: &[u8]) -> Result<Vec<usize>, AllocError> {
     let mut starts = Vec::new(alloc);
     let mut depth: usize = 0;
@@ -142,7 +142,7 @@ impl Sentences {
     }
 }
 
-/// What is wrong with a sentence, or with several sentences together.
+/// The message for an error in a sentence, or in several sentences together.
 fn words_of(fault: LoadFault) -> &'static str {
     match fault {
         LoadFault::Variable(_) => "a variable, but the rules must be ground",
@@ -207,8 +207,8 @@ fn push_kind(
     }
 }
 
-/// How to fix the error, as a line, if there is a hint. If a text has no lists, it may be the name of a file, unless it
-/// is empty.
+/// A line with a hint on how to fix the error, or an empty text. A text that is not empty but has no lists may be the
+/// name of a file.
 fn remedy(text: &[u8], fault: DescriptionFault) -> &'static str {
     match fault {
         DescriptionFault::Unfit(LoadFault::NoRole) if !text.is_empty() && !text.contains(&b'(') => {
@@ -222,7 +222,7 @@ fn remedy(text: &[u8], fault: DescriptionFault) -> &'static str {
 }
 
 /// Appends to `out` why a text does not describe a game within these limits: a hint on how to fix the text, if there is
-/// one, and then what is wrong.
+/// one, and then the error.
 pub fn push_description(
     alloc: Global,
     limits: Limits,

@@ -15,7 +15,7 @@ pub fn push_several_lines(text: &[u8], out: &mut String) -> Result<(), AllocErro
     }
 }
 
-/// Appends to `out` how many lines of call logs were skipped, if there were any.
+/// Appends to `out` the number of skipped lines of call logs, if it is not 0.
 pub fn push_skipped_lines(count: u64, out: &mut String) -> Result<(), AllocError> {
     match count {
         0 => Ok(()),

@@ -10,7 +10,7 @@ const BAD_ID: &str = "badid: an id has 1 to 64 letters, digits, -, _ and .";
 
 const BAD_CLOCK: &str = "badclock: a clock has 1 to 86400 seconds";
 
-/// Which rule the word at this index of a schedule's line breaks, if any. The id has the index 0.
+/// The rule that the word at this index of a schedule's line breaks, if any. The id has the index 0.
 fn broken_rule(place: usize, word: &[u8]) -> Option<&'static str> {
     match place {
         0 if !is_name(word) => Some(BAD_ID),
@@ -22,7 +22,7 @@ fn broken_rule(place: usize, word: &[u8]) -> Option<&'static str> {
     }
 }
 
-/// What is wrong with a line of a schedule, if the match in it breaks a rule.
+/// The error in a line of a schedule, if the match in it breaks a rule.
 fn refused_match(line: &[u8]) -> Option<BadLine> {
     let mut start: usize = 0;
     let mut place: usize = 0;
@@ -44,7 +44,7 @@ fn refused_match(line: &[u8]) -> Option<BadLine> {
     None
 }
 
-/// Appends to `out` what is wrong with each match of a schedule that breaks a rule. Line numbers count from 1.
+/// Appends to `out` an explanation for each match of a schedule that breaks a rule. Line numbers count from 1.
 pub fn push_refused_matches(schedule: &[u8], out: &mut String) -> Result<(), AllocError> {
     let mut rest = Some(schedule);
     for number in 1..u64::MAX {
@@ -61,7 +61,7 @@ pub fn push_refused_matches(schedule: &[u8], out: &mut String) -> Result<(), All
     Ok(())
 }
 
-/// Appends to `out` which rules a match breaks that has this id, these clocks and this many players, in a game with
+/// Appends to `out` the rules that a match with this id, these clocks and this many players breaks, in a game with
 /// `roles` roles.
 pub fn push_broken_rules(
     id: &str,

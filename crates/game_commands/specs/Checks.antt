@@ -41,8 +41,8 @@ abbrev pub TellsFault : {W : Type 0} → (W → Option (List ℕ)) → Bool → 
 TellsFault contents is_json fault told writer writer' = ((told ≡ NotLawful fault) × TellsUnlawful contents is_json fault writer writer')
     ⊎ ((is_json ≡ true) × IsNotWritten contents true (Unlawful fault) told writer writer')
 
--- What an error says about the bytes that were read, the reader before and after, and the writer. Nothing is written except a verdict, or,
--- if the write fails, a prefix of the verdict. A record is checked only after all of it was read.
+-- The meaning of an error, given the bytes that were read, the reader before and after, and the writer. Nothing is written except
+-- a verdict, or, if the write fails, a prefix of the verdict. A record is checked only after all of it was read.
 abbrev pub CheckFails : {S M R W : Type 0} → (R → Option (List ℕ)) → (W → Option (List ℕ)) → Bool → Rules S M → Fault → List ℕ → Counting R → Counting R → Counting W → Counting W → Type 0
 CheckFails remaining contents is_json g ReadFault given reader reader' writer writer' = (length given ≤ max_record) × StopsReading (length given) reader reader' × (writer' ≡ writer)
 CheckFails remaining contents is_json g InputTooLong given reader reader' writer writer' = (max_record < length given) × (reader'.faults ≡ reader.faults) × (writer' ≡ writer)
@@ -76,8 +76,8 @@ TellsPart contents is_json g verdicts line writer writer' = (writer'.faults ≡ 
 abbrev pub LineFails : {S M W : Type 0} → (W → Option (List ℕ)) → Bool → Rules S M → Fault → List ℕ → Counting W → Counting W → Type 0
 LineFails contents is_json g fault line writer writer' = ((fault ≡ Memory) × (writer' ≡ writer)) ⊎ ((fault ≡ WriteFault) × TellsPart contents is_json g [] line writer writer')
 
--- What an error says about the streams before and after. The first lines got these verdicts, and these bytes are left. Reading stops at a
--- line that is too long, or after 2^64 - 1 lines.
+-- The meaning of an error, given the streams before and after. The first lines got these verdicts, and these bytes are
+-- left. Reading stops at a line that is too long, or after 2^64 - 1 lines.
 abbrev pub CheckStops : {S M R W : Type 0} → (R → Option (List ℕ)) → (W → Option (List ℕ)) → Bool → Rules S M → Fault → List Verdict → List ℕ → Counting R → Counting R → Counting W → Counting W → Type 0
 CheckStops remaining contents is_json g ReadFault verdicts left reader reader' writer writer' =
     HasOpenLine left (λ count. (count ≤ max_line) × StopsReading count reader reader') × TellsVerdicts contents is_json verdicts writer writer'

@@ -91,8 +91,8 @@ AnswersInput remaining file_remaining contents rules game request reader reader'
     MatchOption request.task.file (Answers remaining contents request.is_json rules game request.task.command 0 reader reader' writer writer')
     (λ path. (reader' ≡ reader) × ((opened : Counting _) × (read : Counting _) × Answers file_remaining contents request.is_json rules game request.task.command 0 opened read writer writer'))
 
--- What an error says about the input. If a file is named, there are two cases: the file cannot be opened, and nothing was written; or the
--- error is the error of the command on the bytes of the file, turned into an error of the file.
+-- The meaning of an error for the input. If a file is named, there are two cases: the file cannot be opened, and nothing was
+-- written; or the error is the error of the command on the bytes of the file, turned into an error of the file.
 abbrev pub FailsInput : {G S M R F W : Type 0} → (R → Option (List ℕ)) → (F → Option (List ℕ)) → (W → Option (List ℕ)) → (G → Rules S M) → G → GameRequest → Fault → Counting R → Counting R → Counting W → Counting W → Type 0
 FailsInput remaining file_remaining contents rules game request fault reader reader' writer writer' =
     MatchOption request.task.file (Fails remaining contents request rules game fault reader reader' writer writer')

@@ -1,4 +1,4 @@
--- What an error of an interactive desk says about its streams. The desk writes the answer to each line before it reads the next line.
+-- The meaning of an error of an interactive desk. The desk writes the answer to each line before it reads the next line.
 use Rattle.std.specs.Prelude.{◌≡◌, ◌⊎◌, ℕ, ◌<◌, ◌≤◌, List, [], ◌∷◌, ◌++◌, length, take, Option}
 use Rattle.std.specs.Io.KnownBytes.{Appends, IsAtEnd}
 use Rattle.std.specs.Str.Lines.{lines}
@@ -26,8 +26,8 @@ WritesPart contents done text writer writer' = (writer'.faults ≡ one_more writ
 abbrev pub StopsWriting : {W : Type 0} → (W → Option (List ℕ)) → List ℕ → List ℕ → Fault → Counting W → Counting W → Type 0
 StopsWriting contents done text fault writer writer' = ((fault ≡ Memory) × Writes contents done writer writer') ⊎ ((fault ≡ WriteFault) × WritesPart contents done text writer writer')
 
--- What an error says about the streams before and after. The first lines were answered, and these bytes are left. `answers` computes the
--- answers to lines.
+-- The meaning of an error, given the streams before and after. The first lines were answered, and these bytes are left.
+-- `answers` computes the answers to lines.
 abbrev pub StopsAnswering : {R W : Type 0} → (R → Option (List ℕ)) → (W → Option (List ℕ)) → (List (List ℕ) → List ℕ) → Fault → List (List ℕ) → List ℕ → Counting R → Counting R → Counting W → Counting W → Type 0
 StopsAnswering remaining contents answers ReadFault first left reader reader' writer writer' =
     HasOpenLine left (λ count. (count ≤ max_script) × StopsReading count reader reader') × Writes contents (answers first) writer writer'

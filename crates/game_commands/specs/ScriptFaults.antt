@@ -1,4 +1,4 @@
--- What an error of a script says about its streams.
+-- The meaning of an error of a script.
 use Rattle.std.specs.Prelude.{◌≡◌, ℕ, ◌<◌, ◌≤◌, List, length, take, Option}
 use Rattle.std.specs.Io.KnownBytes.{Appends, IsAtEnd}
 use Rattle.game_core.specs.Counting.{Counting, one_more}
@@ -9,8 +9,8 @@ use Rattle.command_faults.specs.declared.fault.Fault.TheVariants.{ReadFault, Inp
 abbrev pub max_script : ℕ
 max_script = 1048576
 
--- What an error says about the reader before and after, and about the writer. This many bytes of the script were read, and this is the
--- output for them. Only a failed write leaves something written, namely a prefix of the output.
+-- The meaning of an error, given the reader before and after, and the writer. This many bytes of the script were read,
+-- and this is the output for them. Only a failed write leaves something written, namely a prefix of the output.
 abbrev pub ScriptFails : {R W : Type 0} → (R → Option (List ℕ)) → (W → Option (List ℕ)) → List ℕ → Fault → ℕ → Counting R → Counting R → Counting W → Counting W → Type 0
 ScriptFails remaining contents output ReadFault given reader reader' writer writer' = (given ≤ max_script) × StopsReading given reader reader' × (writer' ≡ writer)
 ScriptFails remaining contents output InputTooLong given reader reader' writer writer' = (max_script < given) × (reader'.faults ≡ reader.faults) × (writer' ≡ writer)

@@ -16,8 +16,8 @@ use std::alloc::{AllocError, Global};
 /// The output for a script, and the number of its bad lines.
 #[derive(Drop)]
 pub struct Answers {
-    /// The answers to the lines, and then the records, in the order in which the matches were opened. Each answer and
-    /// each record ends with a line feed.
+    /// The answers to the lines, and then the records, in the order the matches were opened. Each answer and each
+    /// record ends with a line feed.
     pub text: Vec<u8>,
     pub bad_lines: u64,
 }
@@ -66,7 +66,7 @@ fn answer_input<O: Object<Call = Call, Reply = Reply>>(
     Ok(Answers { text, bad_lines })
 }
 
-/// Appends to `out` the record of each match, with a line feed, in the order in which the matches were opened.
+/// Appends to `out` the record of each match, with a line feed, in the order the matches were opened.
 pub fn push_records<G: Game>(
     alloc: Global,
     manager: &Manager<G>,

@@ -100,14 +100,14 @@ fn perform<G: Game + Drop, R: Read, W: Write>(
     }
 }
 
-/// A command and the game on which it runs.
+/// A command and its game.
 #[derive(Drop)]
 struct LoadedRequest<'a, G> {
     request: GameRequest<'a>,
     game: G,
 }
 
-/// Runs a command for its game. The input is the file that the request names, or else the reader.
+/// Runs a command for its game. The input is the file that the request names. If the request names no file, the input is the reader.
 fn perform_on<F: Files, G: Game + Drop, R: Read, W: Write>(
     files: &F,
     alloc: Global,

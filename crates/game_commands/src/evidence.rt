@@ -1,11 +1,11 @@
-//! What a command stores, so that `explanations` can explain its result.
+//! The evidence that a command stores, so that `explanations` can explain its result.
 
 use described_games::DescriptionFault;
 use desk_text::ReplayFault;
 use game_core::Limits;
 use std::alloc::Global;
 
-/// The cause of a command's error, or what the command skipped. It is `Nothing` if the command ran out of memory.
+/// The cause of a command's error, or the number of lines that the command skipped. It is `Nothing` if the command ran out of memory.
 #[derive(Drop)]
 pub enum Evidence {
     Nothing,

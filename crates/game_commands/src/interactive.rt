@@ -92,8 +92,8 @@ fn write_records<G: Game, W: Write>(
 }
 
 /// Answers each line of a script on a new desk with these games before it reads the next line. At the end, writes the
-/// record of each match, in the order in which the matches were opened. A line may be as long as a whole script.
-/// Returns the number of bad lines.
+/// record of each match, in the order the matches were opened. A line may be as long as a whole script. Returns the
+/// number of bad lines.
 pub fn run_interactive<R: Read, W: Write, G: Game + Drop>(
     alloc: Global,
     reader: &mut Counted<R>,

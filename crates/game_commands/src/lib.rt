@@ -1,7 +1,7 @@
 //! The commands that need one game and no players: `desk`, `verify` and `replay`.
 //!
-//! `for_game` runs one of them. It stores an `Evidence`, with which `explanations` can explain the result. Free functions take the
-//! allocator first, after a handle for files.
+//! `for_game` runs one of them. It stores an `Evidence`, so that `explanations` can explain the result. Free functions
+//! take the allocator first, after a handle for files.
 #![tactic(auto)]
 
 mod answers;

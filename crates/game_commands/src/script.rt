@@ -16,8 +16,8 @@ use whole_streams::{read_to_end, write_all};
 pub(crate) const MAX_SCRIPT: usize = 1_048_576;
 
 /// Reads a whole script, answers each line on a new desk with these games, and writes the answers and then the record
-/// of each match, in the order in which the matches were opened. Returns the number of bad lines. If there is a bad
-/// line, stores the script as evidence.
+/// of each match, in the order the matches were opened. Returns the number of bad lines. If there is a bad line, stores
+/// the script as evidence.
 pub fn run_script<R: Read, W: Write, G: Game + Drop>(
     alloc: Global,
     reader: &mut Counted<R>,

@@ -59,7 +59,7 @@ command_fault (CommandNotSent shortage) = NotSent shortage
 command_fault CommandWriteFault = WriteFault
 command_fault CommandMemory = Memory
 
--- the error of a task, given its number of matches without a record or of bad answers, or the error with which it ended
+-- the error of a task, given its number of matches without a record or of bad answers, or the error that ended it
 abbrev pub task_fault : MatchTask → Result ℕ Fault → Fault
 task_fault (Check plan) (Ok count) = BadAnswers count
 task_fault task (Ok count) = NoRecords count

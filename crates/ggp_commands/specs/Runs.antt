@@ -1,4 +1,4 @@
--- What a single match writes.
+-- The output of a single match.
 use Rattle.std.specs.Prelude.{◌≡◌, ℕ, List, Option, Some}
 use Rattle.std.specs.Io.KnownBytes.{Appends}
 use Rattle.desk_calls.specs.declared.call.Refusal.{Refusal}
@@ -25,8 +25,8 @@ WritesRun is_reached handed game run old new = (line : List ℕ) × (history : _
 abbrev pub IsRefusedFor : PlayableGame → MatchPlan → Refusal → Type 0
 IsRefusedFor game plan reason = (setup : Setup) × IsSetupOf plan setup × (packed_refusal game.game.now setup ≡ Some reason)
 
--- What a single match that ended with this error has written: a prefix of its output if a write failed, and otherwise nothing. If the error
--- is a refusal, it has the reason for which the match was refused.
+-- The output of a single match that ended with this error: a prefix of the match's whole output if a write failed, and
+-- otherwise nothing. If the desk refused the match, the error has the reason for this.
 abbrev pub WritesRunUpTo : {P : Type 0} → (RolePlace → PlayerAddress → P → Type 0) → (P → Option (List Handed)) → PlayableGame → RunPlan → Option (List ℕ) → Option (List ℕ) → Fault → Type 0
 WritesRunUpTo is_reached handed game run old new WriteFault = (line : List ℕ) × (history : _) × IsPlannedMatch is_reached handed game 0 run.plan line history
     × AppendsPart old new (match_text line history run.has_history)

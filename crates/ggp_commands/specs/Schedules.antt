@@ -21,12 +21,12 @@ abbrev pub has_schedule : MatchTask → Bool
 has_schedule (Season plan) = true
 has_schedule task = false
 
--- The outputs of these matches, except the missing ones, were written in the form that was asked for. Each match is a match of this game.
+-- The outputs of these matches, except the missing ones, were written in this form. Each match is a match of this game.
 -- Its players were reached at the addresses of their roles, and got the game's rules.
 abbrev pub WritesPlans : {P : Type 0} → (RolePlace → PlayerAddress → P → Type 0) → (P → Option (List Handed)) → PlayableGame → SeasonForm → List MatchPlan → ℕ → Option (List ℕ) → Option (List ℕ) → Type 0
 WritesPlans is_reached handed game form plans missing old new = WritesAllBut (IsOutputOf is_reached handed game plans form.has_history) form.order missing (length plans) old new
 
--- What was written for these matches before this error, as `match_season` specifies it.
+-- The output for these matches before this error, as `match_season` specifies it.
 abbrev pub WritesPlansUpTo : {P : Type 0} → (RolePlace → PlayerAddress → P → Type 0) → (P → Option (List Handed)) → PlayableGame → SeasonForm → List MatchPlan → Fault → Option (List ℕ) → Option (List ℕ) → Type 0
 WritesPlansUpTo is_reached handed game form plans fault old new =
     (why : SeasonFault) × (fault ≡ season_fault why) × WritesUpTo (IsOutputOf is_reached handed game plans form.has_history) form.order (length plans) old new why
@@ -45,8 +45,8 @@ abbrev pub LosesFile : {P : Type 0} → (RolePlace → PlayerAddress → P → T
 LosesFile is_reached handed game season schedule fault old new = (is_some season.records ≡ true) × (fault ≡ WriteFault)
     × ((missing : ℕ) × WritesSeason is_reached handed game season schedule missing old new)
 
--- What a season that ended with this error has written: nothing if there are no plans, everything if its file of records was lost after the
--- last match, and otherwise the outputs before the error.
+-- The output of a season that ended with this error: nothing if there are no plans, everything if its file of records
+-- was lost after the last match, and otherwise the outputs before the error.
 abbrev pub WritesSeasonUpTo : {P : Type 0} → (RolePlace → PlayerAddress → P → Type 0) → (P → Option (List Handed)) → PlayableGame → SeasonPlan → List ℕ → Option (List ℕ) → Option (List ℕ) → Fault → Type 0
 WritesSeasonUpTo is_reached handed game season schedule old new fault =
     ((HasNoPlans game.game.now season.strikes season.done season.records schedule fault × (new ≡ old))

@@ -1,4 +1,4 @@
--- What a task reads and writes.
+-- The input and the output of a task.
 use Rattle.std.specs.Prelude.{◌≡◌, ◌≢◌, ◌⊎◌, ℕ, List, [], MatchOption, Option, false, Ok, string_bytes}
 use Rattle.std.specs.Io.KnownBytes.{Appends, Consumes, IsAtEnd}
 use Rattle.game_core.specs.Counting.{Counting}
@@ -36,7 +36,7 @@ WritesTask H is_reached handed game (Run run) input count old new = (count ≡ 0
 WritesTask H is_reached handed game (Season season) input count old new = WritesSeason is_reached handed game season input count old new
 WritesTask H is_reached handed game (Check plan) input count old new = WritesCheck H is_reached handed game plan count old new
 
--- What a task that ended with this error has written.
+-- The output of a task that ended with this error.
 abbrev pub WritesTaskUpTo : (H : Type 0) → {P : Type 0} → (RolePlace → PlayerAddress → P → Type 0) → (P → Option (List Handed)) → PlayableGame → MatchTask → List ℕ → Option (List ℕ) → Option (List ℕ) → Fault → Type 0
 WritesTaskUpTo H is_reached handed game (Run run) input old new fault = WritesRunUpTo is_reached handed game run old new fault
 WritesTaskUpTo H is_reached handed game (Season season) input old new fault = WritesSeasonUpTo is_reached handed game season input old new fault
@@ -87,7 +87,7 @@ FailsToPlay H is_reached handed remaining contents plan task reader reader' writ
     ⊎ ((game : PlayableGame) × (input : List ℕ) × IsLoadedGame plan game.game.now game.rules.now × ReadsInput remaining task input reader reader'
     × EndsTask H is_reached handed game task input (contents writer.stream) (contents writer'.stream) fault))
 
--- What a task that succeeded has read and written.
+-- The input and the output of a task that succeeded.
 abbrev pub Performs : (H : Type 0) → {P R F W : Type 0} → (RolePlace → PlayerAddress → P → Type 0) → (P → Option (List Handed)) → (R → Option (List ℕ)) → (F → Option (List ℕ)) → (W → Option (List ℕ)) → Task → Counting R → Counting R → Counting W → Counting W → Type 0
 Performs H is_reached handed remaining file_remaining contents (Show text) reader reader' writer writer' = (reader' ≡ reader) × Appends (contents writer.stream) (contents writer'.stream) (string_bytes text)
 Performs H is_reached handed remaining file_remaining contents (Game request) reader reader' writer writer' =
@@ -100,7 +100,7 @@ Performs H is_reached handed remaining file_remaining contents (Host plan task) 
 -- The calls and replies of a desk that listens go over connections: see `serve_desk` and `converse` of `desk_service`.
 Performs H is_reached handed remaining file_remaining contents (Serve plan) reader reader' writer writer' = Unit {0}
 
--- What a task that ended with this error has read and written.
+-- The input and the output of a task that ended with this error.
 abbrev pub Fails : (H : Type 0) → {P R F W : Type 0} → (RolePlace → PlayerAddress → P → Type 0) → (P → Option (List Handed)) → (R → Option (List ℕ)) → (F → Option (List ℕ)) → (W → Option (List ℕ)) → Task → Counting R → Counting R → Counting W → Counting W → Fault → Type 0
 Fails H is_reached handed remaining file_remaining contents (Show text) reader reader' writer writer' fault =
     (reader' ≡ reader) × (fault ≡ WriteFault) × AppendsPart (contents writer.stream) (contents writer'.stream) (string_bytes text)

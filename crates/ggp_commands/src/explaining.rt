@@ -1,4 +1,4 @@
-//! Explains the error of a command, or what the command skipped.
+//! Explains the error of a command, or reports how many lines the command skipped.
 
 use command_faults::Printable;
 use command_line::{MatchTask, RunPlan};
@@ -12,7 +12,7 @@ use std::fmt::Write as _;
 use std::io::Write;
 use whole_streams::Pieces;
 
-/// What to explain.
+/// The subject of an explanation.
 #[derive(Drop)]
 pub enum Subject<'a> {
     /// The evidence of an error.
@@ -25,7 +25,7 @@ pub enum Subject<'a> {
     Id(&'a str),
 }
 
-/// Appends the explanation of this evidence to `lines`. The error is out of memory.
+/// Appends the explanation of this evidence to `lines`. The only error is out of memory.
 fn push_evidence(alloc: Global, evidence: &Evidence, lines: &mut String) -> Result<(), AllocError> {
     match evidence {
         Evidence::Nothing => {}

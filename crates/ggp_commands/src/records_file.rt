@@ -1,4 +1,4 @@
-//! The file to which the records of a season are appended.
+//! Opens, checks and repairs the file for the records of a season.
 ghost use Rattle.std.specs.Prelude.{IfErr};
 ghost use Rattle.command_faults.specs.Faults.{IsFileFault};
 ghost use Rattle.command_faults.specs.declared.files.NamedFile.TheVariants.{Records};
@@ -21,7 +21,7 @@ fn report_on_file<E: Write>(errors: &mut E, path: &str, what: &str) {
     let _ = writeln!(pieces, "ggp_manager: {} {what}", Printable(path));
 }
 
-/// Reports what happened to the file while records were being appended to it.
+/// Reports how the file has changed while this program appended records to it.
 pub fn report_state<E: Write>(errors: &mut E, path: &str, state: RecordsState) {
     match state {
         RecordsState::Kept => {}

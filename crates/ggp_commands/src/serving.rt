@@ -147,7 +147,7 @@ fn write_history<G: Game, W: Write>(
     }
 }
 
-/// Writes the records of a closed desk, in the order in which its matches were opened.
+/// Writes the records of a closed desk, in the order its matches were opened.
 fn write_records<G: Game, W: Write>(
     alloc: Global,
     closed: &Closed<Manager<G>>,
@@ -188,7 +188,7 @@ fn keep<F: LockedFiles, E: Write>(
     }
 }
 
-/// Prints the address at which clients can connect.
+/// Prints the address that clients can connect to.
 fn print_address<W: Write>(
     listener: &Listener,
     alloc: Global,

@@ -12,7 +12,7 @@ use std::io::Write;
 use std::rt::Files;
 use whole_streams::Pieces;
 
-/// What a command uses a file or stream for.
+/// The use of a file or stream in a command.
 #[derive(Clone, Copy)]
 enum Role {
     Input,

@@ -1,4 +1,4 @@
-//! What a command needs from its caller.
+//! The surroundings of a command, which its caller provides.
 
 use std::alloc::Global;
 
@@ -18,7 +18,7 @@ impl Terminals {
     }
 }
 
-/// What a command needs: the runtime, an allocator, and a way to reach players.
+/// The surroundings of a command: the runtime, an allocator, and a way to reach players.
 #[derive(Drop)]
 pub struct Surroundings<'a, H, S> {
     pub rt: &'a H,

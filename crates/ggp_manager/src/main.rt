@@ -52,7 +52,7 @@ fn ended<E: Write>(errors: &mut E, fault: Fault, why: bool) -> ExitCode {
     ExitCode::from(report(errors, fault, why))
 }
 
-/// What a command gets from the process, besides its runtime and its network.
+/// The allocator, the terminals and the standard streams that the process passes to a command.
 #[derive(Drop)]
 struct Process<I, O, E> {
     alloc: Global,

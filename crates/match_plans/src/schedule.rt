@@ -17,7 +17,7 @@ pub const MAX_SCHEDULED: usize = 65_536;
 /// The largest number of matches of a schedule that are played at once.
 pub const MAX_AT_ONCE: usize = 1_024;
 
-/// Why a match cannot follow the matches with these ids, in a game of `roles` roles. If it can, this adds its id.
+/// The error of a match after the matches with these ids, in a game of `roles` roles. If there is none, adds the id of the match.
 fn misplaced<'a>(
     ids: &mut IndexSet<&'a [u8]>,
     plan: &MatchPlan<'a>,
@@ -38,7 +38,7 @@ fn misplaced<'a>(
 }
 
 /// Reads a schedule for a game of `roles` roles. Returns its matches in the order of the text lines, all with the same
-/// strikes. Ignores text lines that have no words or whose first word begins with `#`. The error gives the first bad
+/// strikes. Ignores a text line if it has no words or its first word begins with `#`. The error gives the first bad
 /// text line, or is `Memory`.
 pub fn read_schedule<'a>(
     alloc: Global,

@@ -1,15 +1,15 @@
-//! How a batch of matches is played and written.
+//! How to play a batch of matches and write its records.
 
-/// The order in which the records are written.
+/// The order of the records in the output.
 #[derive(Clone, Copy)]
 pub enum RecordOrder {
     /// The order of the schedule. A record is written once it and all records before it are complete.
     OfSchedule,
-    /// The order in which the matches end.
+    /// Each record is written when its match ends.
     OfEnds,
 }
 
-/// How a batch of matches is played and written.
+/// How to play a batch of matches and write its records.
 #[derive(Clone, Copy)]
 pub struct SeasonForm {
     /// The largest number of matches that are played at once.

@@ -19,7 +19,7 @@ pub record WaitsAgain (old new : SchedulerState) (waiting_match : WaitingMatch) 
   pub is_open : old.is_closed ≡ false
   pub waits : new.queue.waiting.items ≡ with_match old.queue.waiting.items waiting_match
 
--- What happens to a match that was running, and to the match's thread.
+-- The effect of the end of a match on this match and on its thread.
 abbrev pub Ends : SchedulerState → SchedulerState → WaitingMatch → Bool → AfterMatch → Type 0
 Ends old new waiting_match is_short Report =
     IsOver old is_short × (new.queue.waiting.items ≡ old.queue.waiting.items) × (new.threads ≡ old.threads) × (new.has_rested ≡ old.has_rested && is_short)

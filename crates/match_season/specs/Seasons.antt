@@ -89,7 +89,7 @@ pub record WritesMoreAndPart (IsOutput : ℕ → List ℕ → Type 0) (InOrder :
   pub was_open : is_open between.is_settled.items last ≡ true
   pub part : WritesPart IsOutput last middle new
 
--- The outputs of all but `missing` matches were written, each once, and in the order of the schedule if that is asked for.
+-- The outputs of all but `missing` matches were written, each once, and in the order of the schedule if `order` asks for it.
 pub record WritesAllBut (IsOutput : ℕ → List ℕ → Type 0) (order : RecordOrder) (missing all : ℕ) (old new : Option (List ℕ)) : Type 0 where
   pub places : List ℕ
   pub others : length places + missing ≡ all
@@ -97,8 +97,8 @@ pub record WritesAllBut (IsOutput : ℕ → List ℕ → Type 0) (order : Record
   pub in_order : order ≡ OfSchedule → Rises 0 places all
   pub written : WritesMatches IsOutput places old new
 
--- The outputs of the matches with these indices were written, and then a prefix of the output of one more match. Each index occurs once.
--- They are in the order of the schedule if that is asked for.
+-- The outputs of the matches with these indices were written, and then a prefix of the output of one more match. Each
+-- index occurs once. They are in the order of the schedule if `order` asks for it.
 pub record WritesSomeAndPart (IsOutput : ℕ → List ℕ → Type 0) (order : RecordOrder) (all : ℕ) (old new : Option (List ℕ)) : Type 0 where
   pub places : List ℕ
   pub last : ℕ

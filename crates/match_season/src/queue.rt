@@ -141,7 +141,7 @@ fn waiting_matches<'a>(
 }
 
 impl MatchQueue {
-    /// A queue in which all matches wait.
+    /// A queue of all matches. All of them wait.
     pub fn of(
         alloc: Global,
         plans: &[MatchPlan<'_>],
@@ -165,7 +165,7 @@ impl MatchQueue {
         are_free(&self.sitting, self.concurrent, &waiting_match.players)
     }
 
-    /// The index, among the waiting matches, of the first one whose players are all free.
+    /// The index in `waiting` of the first match that can begin because all its players are free.
     fn first_free(&self) -> Option<usize>
         ensures some { IfSome result (λ at. (first : WaitingMatch) × (slice_get self.now.waiting.items at ≡ Some first)
             × (are_free self.now.sitting.items self.now.concurrent first.players.items ≡ true)

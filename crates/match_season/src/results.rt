@@ -8,8 +8,8 @@ use match_play::{EndedMatch, MatchFault};
 use std::marker::{Brand, PhantomData};
 use std::sync::Wait;
 
-/// Names the outputs of one season. A contract cannot name what another thread sends, so each season chooses a separate
-/// brand.
+/// Names the outputs of one season. A contract cannot name the values that another thread sends, so each season chooses
+/// a separate brand.
 pub trait OutputBrand {
     /// The text is the output of the match with this index in the schedule.
     ghost is_output: { ℕ → List ℕ → Type 0 };
@@ -21,7 +21,7 @@ impl OutputBrand for Brand {
     ghost is_output = { λ place text. ⊤ };
 }
 
-/// The result of the match with this index in the schedule: its output, or why it has no record.
+/// The result of the match with this index in the schedule: its output, or the reason why it has no record.
 #[derive(Drop)]
 pub struct MatchResult<N: OutputBrand> {
     pub place: usize,

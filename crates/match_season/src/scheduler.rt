@@ -12,7 +12,7 @@ use std::time::Duration;
 /// resources of ended threads.
 const REST: u64 = 500;
 
-/// What a thread does after a match.
+/// The next action of a thread after a match.
 #[derive(Clone, Copy)]
 pub enum AfterMatch {
     /// The thread sends the result, and begins another match.

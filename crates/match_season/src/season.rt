@@ -24,7 +24,7 @@ use std::sync::{Mutex, Wait};
 use std::thread;
 use std::thread::Threads;
 
-/// What a season needs: the runtime, the way to reach players, and where to report matches without a record.
+/// The surroundings of a season: the runtime, the way to reach players, and the reporter of matches without a record.
 #[derive(Drop)]
 pub struct SeasonSurroundings<'s, 'e, R, S, E> {
     pub rt: &'s R,
@@ -40,7 +40,7 @@ fn was_short(outcome: &Result<EndedMatch, MatchFault>) -> bool
     matches!(outcome, Err(MatchFault::Memory))
 }
 
-/// What the threads of a season share.
+/// The data that the threads of a season share.
 #[derive(Drop)]
 struct Season<'f, 'a, S: Reach, N: OutputBrand>
 where

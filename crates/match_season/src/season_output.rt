@@ -49,7 +49,7 @@ impl From<AllocError> for SeasonFault {
     }
 }
 
-/// Where a season reports the matches without a record.
+/// Receives the reports on matches without a record.
 pub trait ReportsMissing {
     /// Reports why the match with this id has no record.
     fn report_missing<F: fmt::Display>(&mut self, id: &str, why: &F);
@@ -181,7 +181,7 @@ fn none_waiting<N: OutputBrand>(
     Ok(waiting)
 }
 
-/// The index from which to write stored results, after the match with the index `place` is over.
+/// The index of the first stored result to write after the match with the index `place` is over.
 fn first_to_write(order: RecordOrder, next: usize, place: usize) -> usize
     ensures { order ≡ OfSchedule → result ≡ next }
 {

@@ -1,9 +1,9 @@
-//! Which matches of a season are settled, and how many records were written.
+//! The settled matches of a season, and the number of written records.
 ghost use Rattle.std.specs.Prelude.{◌≡◌, count_by};
 
 use std::alloc::{AllocError, Global};
 
-/// What a season has written. A match is settled once its record was written or reported as missing.
+/// The progress of a season's output. A match is settled once its record was written or reported as missing.
 #[derive(Drop)]
 pub struct Written {
     pub records: u64,
@@ -17,7 +17,7 @@ impl Written {
     ghost use Rattle.std.specs.Prelude.{◌≡◌, ◌-◌, ◌↔◌, false, true, IfOk, IsTrue, replicate, slice_set, vec_len};
     ghost use Rattle.match_season.specs.Seasons.{AreSettled, is_open};
 
-    /// The state in which none of `count` matches is settled.
+    /// The initial state for `count` matches: no match is settled.
     pub fn nothing(alloc: Global, count: usize) -> Result<Written, AllocError>
         ensures { IfOk result (λ written. (written.records ≡ 0) × (written.is_settled.items ≡ replicate count false)) }
     {

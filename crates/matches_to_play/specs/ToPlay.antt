@@ -32,7 +32,7 @@ AreLeft game file all plans =
 abbrev pub AreUndone : {F : Type 0} → PackedGame → ℕ → Option F → List ℕ → List MatchPlan → Type 0
 AreUndone game strikes done schedule plans = (all : List MatchPlan) × AllZip (IsPlanned strikes) (match_lines schedule) all × AreLeft game done all plans
 
--- The matches of `AreUndone`, except those that are over according to the file to which records are appended, if there is one.
+-- The matches of `AreUndone`, except those that are over according to the file for appending records, if there is one.
 abbrev pub AreToPlay : {F G : Type 0} → PackedGame → ℕ → Option F → Option G → List ℕ → List MatchPlan → Type 0
 AreToPlay game strikes done records schedule plans = (undone : List MatchPlan) × AreUndone game strikes done schedule undone × AreLeft game records undone plans
 
@@ -42,6 +42,6 @@ HasNoUndone game strikes done schedule fault = (fault ≡ Memory)
     ⊎ (((bad : ScheduleFault) × (fault ≡ schedule_fault bad) × IsBadLine (loaded_game (tables_of game)).roles strikes (cut_lines schedule) bad)
     ⊎ ((is_some done ≡ true) × IsFileFault Records fault))
 
--- Why there are no matches to play: one of these reasons, or the file to which records are appended cannot be read or written.
+-- Why there are no matches to play: one of these reasons, or the file for appending records cannot be read or written.
 abbrev pub HasNoPlans : {F G : Type 0} → PackedGame → ℕ → Option F → Option G → List ℕ → Fault → Type 0
 HasNoPlans game strikes done records schedule fault = HasNoUndone game strikes done schedule fault ⊎ ((is_some records ≡ true) × IsFileFault Records fault)

@@ -125,8 +125,8 @@ fn partial_in<G: Game>(
     }
 }
 
-/// The first record of the game in the file at this path whose match is over but whose call log is incomplete. A last
-/// line without a line feed does not belong to a call log.
+/// The first record of the game, in the file at this path, that has an incomplete call log although its match is over.
+/// A last line without a line feed does not belong to a call log.
 pub fn partial_record<F: Files, G: Game>(
     files: &F,
     alloc: Global,

@@ -59,7 +59,7 @@ fn planned_names(alloc: Global, plan: &MatchPlan<'_>) -> Result<Vec<u8>, AllocEr
     Ok(names)
 }
 
-/// The names in a record whose match is over, and otherwise `None`.
+/// The names in a record, or `None` if the match of the record is not over.
 fn names_if_over(alloc: Global, parts: &RecordParts) -> Result<Option<Vec<u8>>, AllocError>
     ensures { IfOk result (λ o. option_map (λ names. names.items) o ≡ if is_last parts.now.phase then Some (match_names parts.now.id parts.now.players) else None) }
 {

@@ -87,8 +87,8 @@ fn done_by<F: Files, E: Write>(
     }
 }
 
-/// The plans whose matches are not over according to this file of records, if one is named. Reports how many lines of the file are neither
-/// lawful records nor lines of call logs.
+/// The plans of the matches that are not over according to this file of records, or all plans if no file is named.
+/// Reports how many lines of the file are neither lawful records nor lines of call logs.
 pub fn undone<'a, F: Files, E: Write>(
     files: &F,
     alloc: Global,

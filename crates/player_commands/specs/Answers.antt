@@ -18,7 +18,7 @@ abbrev pub answer_text : Answer → List ℕ
 answer_text (answers.Text text) = text
 answer_text answer = []
 
--- The beginning of a message, the beginning of the answer's text, whether the message asks for a move, and what came after it.
+-- The beginning of a message, the beginning of the answer's text, whether the message asks for a move, and the kind of the answer.
 pub record AreOfMessage (message : List ℕ) (is_play : Bool) (answer : List ℕ) (brought : AnswerKind) : Type 0 where
   pub body : List ℕ
   pub given : Answer

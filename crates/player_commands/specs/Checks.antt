@@ -39,7 +39,7 @@ is_watched H is_reached role at address participant = (is_some participant.watch
 abbrev pub watched_handed : (H : Type 0) → {P : Type 0} → (P → Option (List Handed)) → CheckedPlayer H P → Option (List Handed)
 watched_handed H handed participant = option_and_then handed participant.watched
 
--- A match of this game was played in which the checked player had this role and got the role's messages. These are the role's turns.
+-- A match of this game was played. In this match, the checked player had this role and got the role's messages. These are the role's turns.
 pub record AreTurnsIn (H : Type 0) {P : Type 0} (is_reached : RolePlace → PlayerAddress → P → Type 0) (handed : P → Option (List Handed)) (game : PlayableGame) (plan : CheckPlan) (role : ℕ) (turns : List RoleTurn) : Type 0 where
   pub made : MatchPlan
   pub planned : IsPlanFor plan (match_id role) role (loaded_game (tables_of game.game.now)).roles made

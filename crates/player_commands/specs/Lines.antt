@@ -40,14 +40,14 @@ shortage_word Resolver = codes "resolver"
 shortage_word Network = codes "network"
 shortage_word Processor = codes "processor"
 
--- the JSON object for a player that gave no answer, or to which nothing was sent
+-- the JSON object for a player that gave no answer or got no message
 abbrev pub unanswered_line : List ℕ → CommandFault → List ℕ
 unanswered_line name NoAnswer = verdict_line name (codes "no_answer")
 unanswered_line name (NotSent shortage) =
     codes "{\"player\":\"" ++ (name ++ (codes "\",\"verdict\":\"not_sent\",\"lacks\":\"" ++ (shortage_word shortage ++ codes "\"}\n")))
 unanswered_line name fault = []
 
--- what was written about a player that gave no answer, or to which nothing was sent: one line if the output is JSON, otherwise nothing
+-- the output for a player that gave no answer or got no message: one line if the output is JSON, otherwise nothing
 abbrev pub TellsUnanswered : {W : Type 0} → (W → Option (List ℕ)) → Bool → List ℕ → CommandFault → Counting W → Counting W → Type 0
 TellsUnanswered contents true name NoAnswer writer writer' = Appends (contents writer.stream) (contents writer'.stream) (unanswered_line name NoAnswer)
 TellsUnanswered contents true name (NotSent shortage) writer writer' = Appends (contents writer.stream) (contents writer'.stream) (unanswered_line name (NotSent shortage))
@@ -57,7 +57,7 @@ abbrev pub IsInfoOutput : Bool → List ℕ → List ℕ → Type 0
 IsInfoOutput is_json name line = ((answer : List ℕ) × (line ≡ info_line is_json name (info_reading answer)))
     ⊎ ((is_json ≡ true) × ((fault : CommandFault) × (line ≡ unanswered_line name fault)))
 
--- what `info` has written when it fails
+-- the output of `info` when it fails
 abbrev pub InfoFails : {W : Type 0} → (W → Option (List ℕ)) → Bool → List ℕ → CommandFault → Counting W → Counting W → Type 0
 InfoFails contents is_json name fault writer writer' = TellsUnanswered contents is_json name fault writer writer'
     ⊎ ((fault ≡ WriteFault) × ((line : List ℕ) × IsInfoOutput is_json name line × AppendsPart (contents writer.stream) (contents writer'.stream) line))

@@ -20,6 +20,6 @@ pub record AreTurnsOf {S M : Type 0} (g : Rules S M) (turns : List (Turn M)) (ro
   pub count : length told ≡ length turns
   pub each : (turn : ℕ) (t : RoleTurn) → slice_get told turn ≡ Some t → IsTurnOf g turns role turn t
 
--- A match of this game was opened with this setup and played by these players, who got these printed rules. These are the role's turns.
+-- These players got these printed rules and played a match of this game with this setup. These are the role's turns.
 abbrev pub ArePlayedTurns : {P : Type 0} → (P → Option (List Handed)) → PackedGame → List ℕ → ℕ → Setup → List P → ℕ → List RoleTurn → Type 0
 ArePlayedTurns handed game rules tries setup players role told = IsEndedWith handed game rules tries setup players (λ held. AreTurnsOf (loaded_game (tables_of held.game)) held.value.turns role told)

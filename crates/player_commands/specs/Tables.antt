@@ -16,7 +16,7 @@ played_text (Some turn) = turn.played
 abbrev pub column : List ℕ → List ℕ → List ℕ
 column text columns = text ++ tab ∷ columns
 
--- a row whose last column is this explanation of what is wrong
+-- a row with this explanation in its last column
 abbrev pub row_text : List ℕ → Exchange → Option RoleTurn → List ℕ → List ℕ
 row_text role exchange turn words =
     column (shown_text role)

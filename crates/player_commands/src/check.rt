@@ -73,7 +73,7 @@ impl From<WriteFault> for CheckFault {
 /// The name of the players that answer nothing.
 const NOBODY: &str = "nobody";
 
-/// The player with this index, in the match in which `player` is checked in this role.
+/// The player with this index, in the match that checks `player` in this role.
 fn seated<'a>(player: PlayerAddress<'a>, role: usize, place: usize) -> PlayerAddress<'a>
     ensures player { place ≡ role → result ≡ player.entry }
     ensures other { place ≢ role → result.name.now ≡ nobody }
@@ -89,7 +89,7 @@ fn seated<'a>(player: PlayerAddress<'a>, role: usize, place: usize) -> PlayerAdd
     }
 }
 
-/// The plan of the match in which the player is checked in this role, in a game with this many roles.
+/// The plan of the match that checks the player in this role, in a game with this many roles.
 fn match_plan<'a>(
     alloc: Global,
     plan: &CheckPlan<'a>,
@@ -158,8 +158,8 @@ fn push_rows<'a>(
     Ok(bad)
 }
 
-/// Plays the match in which the player is checked in this role, and appends its rows to the table. Returns the number
-/// of bad answers.
+/// Plays the match that checks the player in this role, and appends its rows to the table. Returns the number of bad
+/// answers.
 fn check_role<H, S>(
     alloc: Global,
     watching: &CheckReach<'_, H, S>,

@@ -40,7 +40,7 @@ impl From<WriteFault> for CommandFault {
     }
 }
 
-/// The error of a command whose message to a player failed.
+/// The error of a command after a message to a player failed.
 pub fn contact_fault(fault: ContactFault) -> CommandFault
     ensures { result ≡ contact_fault fault }
 {

@@ -86,7 +86,7 @@ fn shortage_word(shortage: Shortage) -> &'static str
     }
 }
 
-/// The line with the JSON object for a player that gave no answer, or to which nothing was sent.
+/// The line with the JSON object for a player that gave no answer or got no message.
 fn unanswered_line(alloc: Global, name: &str, fault: CommandFault) -> Result<String, AllocError>
     ensures { IfOk result (λ line. string_bytes line ≡ unanswered_line name.now fault) }
 {
@@ -121,7 +121,7 @@ fn write_unanswered<W: Write>(
     }
 }
 
-/// Asks a player whether it is available, and prints its answer. As JSON, this also prints that there is no answer.
+/// Asks a player whether it is available, and prints its answer. If the output is JSON, also prints that there is no answer.
 pub fn info<N: Resolves + Clock, W: Write, E: Write + Drop>(
     rt: &N,
     alloc: Global,

@@ -6,8 +6,8 @@ use match_book::{ILLEGAL_PREFIX, Match, place_of};
 use match_log::Shown;
 use std::alloc::{AllocError, Global};
 
-/// The largest number of bytes of an explanation. If not all legal moves fit, two dots, which do not count, replace the
-/// others.
+/// The largest number of bytes of an explanation. If not all legal moves fit, two dots replace the rest. The dots do
+/// not count.
 const TOLD: usize = 200;
 
 /// Whether a move with this text is legal for the role in the state.
@@ -43,8 +43,8 @@ fn push_legal<G: Game>(game: &G, moves: &[G::Move], words: &mut String) -> Resul
     Ok(())
 }
 
-/// If the role's answer in a recorded turn was not a legal move, appends an explanation: for which roles the answer was
-/// legal, whether it was legal for this role one turn earlier, and the legal moves. Otherwise appends nothing.
+/// If the role's answer in a recorded turn was not a legal move, appends an explanation: the other roles that the move
+/// is legal for, whether it was legal for this role one turn earlier, and the legal moves. Otherwise appends nothing.
 pub fn push_illegal_words<G: Game>(
     alloc: Global,
     game: &G,

@@ -90,8 +90,8 @@ pub fn row_verdict(exchange: &Exchange, turn: Option<&RoleTurn>) -> Verdict
     verdict_of(exchange.is_play, exchange.brought, error)
 }
 
-/// What is wrong with an exchange that has this turn and this verdict: its error, or why the answer is not a move or
-/// not a legal move.
+/// The column `fault` for an exchange with this turn and this verdict: the error, or the reason why the answer is not a
+/// move or not legal. If all is well, the text is empty.
 pub fn fault_words(
     alloc: Global,
     exchange: &Exchange,
@@ -121,7 +121,7 @@ pub struct Row<'a> {
     pub exchange: &'a Exchange,
     /// The turn that the message asked for, if it was recorded.
     pub turn: Option<&'a RoleTurn>,
-    /// What is wrong with the exchange.
+    /// The text of the column `fault`.
     pub words: &'a str,
 }
 

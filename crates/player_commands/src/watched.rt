@@ -21,7 +21,7 @@ use std::alloc::{AllocError, Global};
 use std::sync::{Mutex, Wait};
 use std::time::{Clock, Duration, Instant};
 
-/// What came after a message.
+/// The kind of answer to a message.
 #[derive(Clone, Copy)]
 pub enum AnswerKind {
     Text,
@@ -155,7 +155,7 @@ pub struct CheckReach<'a, H, S> {
     pub exchanges: &'a Mutex<Exchanges>,
 }
 
-/// A player of a match in which one player is watched.
+/// A player of a match with one watched player.
 #[derive(Drop)]
 pub struct CheckedPlayer<'a, H, P> {
     rt: &'a H,
@@ -210,8 +210,8 @@ impl<H: Clock + Wait, P: Explains> CheckedPlayer<'_, H, P> {
         Instant::now(self.rt).ok()
     }
 
-    /// Records that the message that began at the time `began` has ended. `answer` is `None` if memory ran out. Stores
-    /// the exchange if the player is watched and there is an answer.
+    /// Records the end of the message that began at the time `began`. If the player is watched, stores the exchange. If
+    /// `answer` is `None`, memory ran out, and no exchange is stored.
     fn end(&mut self, message: &SharedText<'_>, answer: Option<&Answer>, began: Option<Instant>)
         ensures rest { as_nanos self.new.pace.rest ≡ 100_000_000 }
         ensures ended { IsFalse self.new.pace.has_rested }

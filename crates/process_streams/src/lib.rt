@@ -1,5 +1,5 @@
-//! What the operating system provides: the limits of the process; its standard streams, which may be closed, non-blocking
-//! or files with a size limit; and the files to which records and the log are appended.
+//! Parts of the operating system: the limits of the process; its standard streams, which may be closed, non-blocking or
+//! files with a size limit; and the files that the program appends records and the log to.
 #![tactic(auto)]
 
 mod limits;

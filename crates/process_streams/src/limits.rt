@@ -7,16 +7,16 @@ use std::rt::Files;
 use std::{fs, io, str};
 use whole_streams::read_to_end;
 
-/// The file in which Linux lists the limits of the process.
+/// The file that lists the limits of the process on Linux.
 const LIMITS: &str = "/proc/self/limits";
 
 /// The largest number of bytes to read from this file.
 const MAX_LIMITS: usize = 65_536;
 
-/// The name of the limit of open file descriptors, as `/proc/self/limits` has it.
+/// The name of the limit of open file descriptors in `/proc/self/limits`.
 pub const DESCRIPTORS: &str = "Max open files";
 
-/// The name of the limit of a file's size in bytes, as `/proc/self/limits` has it.
+/// The name of the limit of a file's size in bytes in `/proc/self/limits`.
 pub const FILE_SIZE: &str = "Max file size";
 
 /// The soft limit with this name in the text of `/proc/self/limits`, or `None` if the text has no such name or there is

@@ -1,4 +1,4 @@
-//! The file to which the log is appended.
+//! The log file. The program only appends to it.
 ghost use Rattle.std.specs.Prelude.{None, IfOk, take};
 ghost use Rattle.std.specs.Io.{WritesAtMost};
 ghost use Rattle.std.specs.Io.KnownBytes.{Appends, WriteAppends};

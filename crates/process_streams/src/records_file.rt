@@ -1,4 +1,4 @@
-//! The file to which records are appended.
+//! Appends records to a file.
 ghost use Rattle.std.specs.Prelude.{◌≡◌, ◌≤◌, None, IfOk, IfSome, take};
 ghost use Rattle.std.specs.Io.{WritesAtMost};
 ghost use Rattle.std.specs.Io.KnownBytes.{Appends, WriteAppends};
@@ -58,8 +58,7 @@ fn is_same(one: &Metadata, other: &Metadata) -> bool {
     one.dev() == other.dev() && one.ino() == other.ino()
 }
 
-/// The length in bytes of the file that the path names now. Returns an error if that is another file than the opened
-/// one.
+/// The length in bytes of the file that the path names now. Returns an error if this is not the opened file.
 fn length_of(opened: &Metadata, named: io::Result<Metadata>) -> io::Result<u64> {
     match named {
         Ok(named) if is_same(&named, opened) => Ok(named.len()),
@@ -68,7 +67,7 @@ fn length_of(opened: &Metadata, named: io::Result<Metadata>) -> io::Result<u64> 
     }
 }
 
-/// What has happened to a file while records were appended to it.
+/// How a file has changed while this program appended records to it.
 #[derive(Clone, Copy)]
 pub enum RecordsState {
     /// Only this program has changed it.
@@ -81,9 +80,9 @@ pub enum RecordsState {
     Grown,
 }
 
-/// A file to which records are appended. After a successful write, the bytes are on the disk, and the path still named
-/// this file. If another program has appended to the file and left its last line incomplete, a write first ends that
-/// line.
+/// A file that is open for appending records. A write succeeds only if the bytes are on the disk and the path still
+/// names this file. If another program has appended to the file and left its last line incomplete, a write first ends
+/// that line.
 #[derive(Drop)]
 pub struct RecordsFile<'a, R, F> {
     files: &'a R,

@@ -7,7 +7,7 @@ use std::sync::Wait;
 use std::time::{Clock, Duration};
 use std::{fs, thread};
 
-/// The names under which Linux shows the files of the standard streams.
+/// The paths of the standard streams' files on Linux.
 pub const INPUT: &str = "/proc/self/fd/0";
 
 pub const OUTPUT: &str = "/proc/self/fd/1";
@@ -23,7 +23,7 @@ const REST: u64 = 5;
 pub struct Standard<'a, R, S> {
     rt: &'a R,
     stream: S,
-    /// The name under which Linux shows the stream's file.
+    /// The path of the stream's file on Linux.
     place: &'static str,
     /// The size limit of the stream's file in bytes.
     limit: Option<u64>,

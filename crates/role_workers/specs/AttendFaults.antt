@@ -14,15 +14,15 @@ attend_fault Full = StopsFull
 attend_fault Memory = StopsMemory
 attend_fault Stalled = StopsStalled
 
--- The error with which a worker stops after this reply to `Next`. There is none if the reply says what is due. If the reply is a refusal,
--- the error has its reason. For any other reply the error is `Stalled`.
+-- The error that stops a worker after this reply to `Next`. There is none if the reply says what is due. If the reply
+-- is a refusal, the error has its reason. For any other reply the error is `Stalled`.
 abbrev pub next_fault : Reply → Option AttendFault
 next_fault (Due due) = None
 next_fault (Refused reason) = Some (StopsRefused reason)
 next_fault _ = Some StopsStalled
 
--- The error with which a worker stops after this reply to its player's answer. There is none if the desk accepts the answer, or refuses it
--- because it is late, repeated, or after the end.
+-- The error that stops a worker after this reply to its player's answer. There is none if the desk accepts the answer,
+-- or refuses it because it is late, repeated, or after the end.
 abbrev pub answer_fault : Reply → Option AttendFault
 answer_fault Taken = None
 answer_fault (Refused (Stale round)) = None

@@ -16,8 +16,8 @@ use Rattle.role_workers.specs.Steps.{Step, finds_the_end, events_of, goes_on, fa
 abbrev pub events_of_all : BriefValue → ℕ → List Step → List Event
 events_of_all brief role steps = flat_map (events_of brief role) steps
 
--- The worker attended the role to the end of the match, in at most this many tries: it made some steps after which a worker continues,
--- and then the step that finds the end. It sent this many messages.
+-- The worker attended the role to the end of the match, in at most this many tries: it made some steps that did not
+-- stop it, and then the step that found the end. It sent this many messages.
 pub record Attends (brief : BriefValue) (role tries : ℕ) (before after : Telling) (messages : ℕ) : Type 0 where
   pub steps : List Step
   pub go_on : All (λ step. goes_on step ≡ true) steps

@@ -1,4 +1,4 @@
--- The events between a worker, its wire and its player, and what the wire and the player show of them.
+-- The events between a worker, its wire and its player, and the ones that the wire and the player show.
 use Rattle.std.specs.Prelude.{◌≡◌, List, Option, Some, None}
 use Rattle.std.specs.List.{filter_map}
 use Rattle.call_history.specs.Told.{told_with}
@@ -27,8 +27,8 @@ message_in (makes call) = None
 message_in (takes reply) = None
 message_in (hands message) = Some message
 
--- What a wire and a player show: the calls that were made, the replies that came, and the messages that were sent, each in order. Any
--- of these may be hidden.
+-- The events that a wire and a player show: the calls, the replies and the messages, each in order. Any of these may be
+-- hidden.
 pub record Telling : Type 0 where
   pub calls : Option (List Call)
   pub replies : Option (List Reply)

@@ -17,8 +17,8 @@ use std::alloc::{AllocError, Global};
 use std::sync::Wait;
 use std::thread::Threads;
 
-/// What to attend: the data of START, the players in the order of the roles, and how many times the worker of a role
-/// may ask what the match owes to the role.
+/// The plan of attending a match: the data of START, the players in the order of the roles, and the number of tries of
+/// each worker. A worker uses up a try each time it asks what the match owes to its role.
 #[derive(Drop)]
 pub struct AttendancePlan<'r, P> {
     pub brief: SharedBrief<'r>,

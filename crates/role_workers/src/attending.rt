@@ -73,7 +73,7 @@ pub(crate) fn answer_call(
     })
 }
 
-/// The error with which a worker stops after this reply to its player's answer. A worker ignores the refusal of an
+/// The error that stops a worker after this reply to its player's answer, if any. A worker ignores the refusal of an
 /// answer that is late, repeated, or after the end.
 fn answer_fault(reply: &Reply) -> Option<AttendFault>
     ensures { result ≡ answer_fault reply.now }

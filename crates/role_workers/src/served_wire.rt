@@ -1,4 +1,4 @@
-//! A wire whose thread serves the desk while it waits for a reply.
+//! A wire that serves the desk while it waits for a reply.
 ghost use Rattle.std.specs.Prelude.{◌≡◌, ◌⊎◌, ◌∷◌, ◌++◌, [], Some, IfOk, IfErr, IfSome, IfNone, OnOk, OnErr, IsErr, IsTrue, IsFalse};
 ghost use Rattle.call_history.specs.Told.{told_with};
 ghost use Rattle.call_history.specs.RingLines.{posted_calls, taken_replies, SameLine};
@@ -53,10 +53,10 @@ impl<'a, O: Object<Call = Call, Reply = Reply>, N: DeskBrand<O>> Wire for Served
 
     ghost same_line = { λ v w. SameLine v.line w.line };
 
-    /// Posts the call and takes one reply. The reply belongs to this call if the line had taken as many replies as it
-    /// had posted calls before. The wire stalls after `TURNS` checks without a reply, or if the desk has stopped. A
-    /// stalled wire does nothing more, but a call that it has posted stays posted. If the desk has stopped because
-    /// memory ran out, the error is `Memory`.
+    /// Posts the call and takes one reply. The reply belongs to this call if the line had taken a reply to each earlier
+    /// call. The wire stalls after `TURNS` checks without a reply, or if the desk has stopped. A stalled wire does
+    /// nothing more, but a call that it has posted stays posted. If the desk has stopped because memory ran out, the
+    /// error is `Memory`.
     fn ask(&mut self, call: Call) -> Result<Reply, AskFault>
         ensures line { SameLine self.old.line self.new.line }
         ensures call { OnOk result (Some (posted_calls self.new.line) ≡ told_with (Some (posted_calls self.old.line)) (call ∷ [])) }
@@ -93,8 +93,8 @@ impl<'a, O: Object<Call = Call, Reply = Reply>, N: DeskBrand<O>> Wire for Served
     ghost same_line_trans = { λ a b c ab bc. Prim.search rules };
 }
 
-/// Takes the reply for which the line waits. Until the reply comes, the thread serves rounds, or waits while another
-/// thread serves one. It gives up after `TURNS` checks, or when the desk has stopped.
+/// Takes the reply that the line waits for. Until the reply comes, the thread serves rounds, or waits while another
+/// thread serves one. The thread gives up after `TURNS` checks, or when the desk has stopped.
 fn take_served<O: Object<Call = Call, Reply = Reply>, N: DeskBrand<O>>(
     line: &mut RingLine<O>,
     desk: &SharedDesk<O, N>,

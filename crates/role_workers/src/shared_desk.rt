@@ -17,8 +17,8 @@ use std::sync::atomic::{AtomicBool, Ordering};
 use std::sync::{Mutex, Wait};
 use std::time::Duration;
 
-/// The longest sleep, in milliseconds, of the thread that opened the desk. After this time the thread tries again a
-/// call that could not be made.
+/// The longest sleep, in milliseconds, of the thread that opened the desk. When it wakes up, it retries a call that
+/// could not be made.
 const LONGEST_SLEEP: u64 = 1_000;
 
 /// How many consecutive rounds may run out of memory for a call.
@@ -47,7 +47,7 @@ struct NamedDesk<O: Object<Call = Call, Reply = Reply>, N: DeskBrand<O>> {
 }
 
 impl<O: Object<Call = Call, Reply = Reply>, N: DeskBrand<O>> NamedDesk<O, N> {
-    /// Serves a round and counts it. The round visits all lines before the one at which it stops.
+    /// Serves a round and counts it. If the round stops at a line, it has visited all lines before it.
     fn round(&mut self) -> Result<u64, DeskFault>
         ensures visits { MatchResult result
             (λ _. Visits self.old.desk.journal.history self.new.desk.journal.history self.old.desk.ports self.new.desk.ports (length self.old.desk.ports))
@@ -112,8 +112,8 @@ impl<O: Object<Call = Call, Reply = Reply>, N: DeskBrand<O>> SharedDesk<O, N> {
 
     /// Serves a round, unless another thread is serving one. Returns whether it served a complete round. If a call
     /// could not be made, the next round tries it again. If the history is full, or `MAX_SHORT_ROUNDS` consecutive
-    /// rounds ran out of memory for a call, the desk stops. Otherwise the threads that wait for a reply would do
-    /// nothing else for minutes.
+    /// rounds ran out of memory for a call, the desk stops. Without this limit, the threads that wait for a reply would
+    /// do nothing else for minutes.
     pub fn serve(&self) -> bool {
         let Some(mut named) = self.locked.try_lock() else {
             return false;

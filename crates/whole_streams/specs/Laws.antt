@@ -3,7 +3,7 @@ use Rattle.std.specs.Prelude.{◌≡◌, ℕ, ◌<◌, List, [], ◌∷◌, ◌+
 use Rattle.std.specs.Str.Lines.{lines}
 use Rattle.whole_streams.specs.Lines.{HasNoLineFeed, BeginsWithLine, BeginsWithLines}
 
--- If the first lines were taken from a text, the next line begins with the bytes that are left, and continues with what the stream gives.
+-- If the first lines were taken from a text, the next line begins with the bytes that are left, and continues with bytes of the stream.
 abbrev pub NextLineIsTaken : Type 0
 NextLineIsTaken = (text : List ℕ) (first : List (List ℕ)) (left given line rest : List ℕ) → BeginsWithLines text first left → BeginsWithLine (left ++ given) line rest → BeginsWithLines (text ++ given) (first ++ line ∷ []) rest
 

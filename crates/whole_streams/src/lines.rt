@@ -60,7 +60,7 @@ fn without_return(mut line: Vec<u8>) -> Vec<u8>
     line
 }
 
-/// What remains after the last line feed: a last line, or nothing.
+/// The part of the input after the last line feed: a last line, or nothing.
 fn at_end(line: Vec<u8>) -> NextLine
     ensures { IsEnd line.items result }
 {

@@ -4,8 +4,8 @@ ghost use Rattle.std.specs.Io.KnownBytes.{Appends};
 use std::fmt;
 use std::io::Write;
 
-/// A stream to which text is formatted. It writes each piece with as many writes as needed, and stops at a write that fails,
-/// is interrupted or takes no bytes. The `write_all` of std would repeat interrupted writes without a limit.
+/// A stream for formatted text. It writes each piece with as many writes as needed, and stops at a write that fails, is
+/// interrupted or takes no bytes. The `write_all` of std would repeat interrupted writes without a limit.
 #[derive(Drop)]
 pub struct Pieces<'a, E> {
     pub stream: &'a mut E,

@@ -77,7 +77,7 @@ fn what_is_no_record_is_named(rt: HostRuntime) -> Result<(), Fail> {
     Ok(())
 }
 
-/// Changes to the record of a match in which roles were retired.
+/// Changes to the record of a match with retired roles.
 const STRUCK_CHANGES: [Change; 7] = [
     ("", "", Ok(())),
     (

@@ -104,7 +104,7 @@ fn games_end_or_are_aborted(rt: HostRuntime) -> Result<(), Fail> {
 /// The largest number of turns of a match.
 const MOST_TURNS: u32 = 10_000;
 
-/// The script of a match whose only role plays `MOST_TURNS` turns and then asks what the match owes to it.
+/// The script of a match with one role. The role plays `MOST_TURNS` turns, and then asks what the match owes to it.
 fn long_script(alloc: Global) -> Result<String, AllocError> {
     let mut script = "open m 0 1 1 ann -> opened\nsubmit m 0 0 x -> taken\n".to_string(alloc)?;
     for round in 1..=MOST_TURNS {

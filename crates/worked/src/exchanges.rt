@@ -12,7 +12,7 @@ const REQUEST: &str =
 
 const REPLY: &str = "HTTP/1.0 200 OK|Content-Type: text/acl|Content-Length: 5||READY";
 
-/// A stream with a given input. It stores what is written to it.
+/// A stream with a given input. It stores the bytes that are written to it.
 #[derive(Drop)]
 struct MemoryStream {
     input: Vec<u8>,
@@ -43,7 +43,7 @@ impl Write for MemoryStream {
     }
 }
 
-/// The bytes of a text, in which `|` becomes a line end.
+/// The bytes of a text, with a line end for each `|`.
 fn bytes_of(alloc: Global, text: &str) -> Result<Vec<u8>, AllocError> {
     let mut bytes = Vec::new(alloc);
     for byte in text.as_bytes() {

@@ -28,7 +28,7 @@ fn reply_to_open(
     Ok(reply)
 }
 
-/// Whether a match whose id is this number can be opened.
+/// Whether a match with this number as its id can be opened.
 fn is_opened(alloc: Global, manager: &mut Manager<Countdown>, number: u32) -> bool {
     match format!(in alloc; "{number}") {
         Ok(id) => matches!(

@@ -70,7 +70,7 @@ fn are_printed(alloc: Global, exprs: &[Expr], wanted: &[&str]) -> Result<bool, A
     Ok(is_so)
 }
 
-/// Whether START has the parts from which it was written.
+/// Whether START has the parts that it was written from.
 fn is_start(alloc: Global, found: &Message) -> Result<bool, AllocError> {
     let Message::Start {
         id,

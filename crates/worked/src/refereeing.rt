@@ -12,13 +12,13 @@ use std::thread;
 use std::thread::Threads;
 use std::time::{Clock, Duration};
 
-/// How many times a player checks whether the other one has got a message.
+/// How many times a player checks whether the other player has got a message.
 const LOOKS: u32 = 2_000;
 
 /// The largest number of tries of the thread that attends a role.
 const TRIES: u64 = 100_000;
 
-/// What a player does when it must answer.
+/// The reaction of a player that must answer.
 #[derive(Clone, Copy)]
 enum Act {
     Say(&'static str),
@@ -27,7 +27,7 @@ enum Act {
 }
 
 /// A player that answers PLAY with `play`, and START and STOP as it should. It counts its messages in a counter that
-/// other players can read. If it never sees that another player got a message, it does not answer START.
+/// other players can read. If the other player never gets a message, it does not answer START.
 #[derive(Drop)]
 struct ReadyPlayer<'a, C> {
     clock: &'a C,
@@ -114,7 +114,7 @@ fn setup(alloc: Global) -> Result<Setup, AllocError> {
     })
 }
 
-/// Plays a match of Countdown with a heap of one, in which red and blue answer PLAY with these acts.
+/// Plays a match of Countdown with a heap of one. Red and blue answer PLAY with these acts.
 fn refereed<R: Threads + Wait + Clock + Abort + Sync>(
     rt: &R,
     alloc: Global,
@@ -138,7 +138,7 @@ fn refereed<R: Threads + Wait + Clock + Abort + Sync>(
     refereed
 }
 
-/// Checks that red has won a match of one turn, in which the moves have these errors.
+/// Checks that red has won a match of one turn, and that the moves of this turn have these errors.
 fn check_match<R: Abort>(rt: &R, held: &Match<Countdown>, errors: [&str; 2]) {
     let status = held.status();
     holds(rt, status.phase == Phase::Finished, "the phase");

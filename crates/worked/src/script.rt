@@ -1,4 +1,4 @@
-//! Scripts in which each call is followed by an arrow and the reply.
+//! Scripts with an arrow and the reply after each call.
 use game_commands::answer_script;
 use game_core::{Countdown, Game};
 use ground_rules::load;

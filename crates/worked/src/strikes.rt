@@ -1,4 +1,4 @@
-//! Matches in which a role is retired after replaced moves in a row.
+//! Matches that test when a role is retired for replaced moves in a row.
 use crate::holding::holds;
 use crate::script::is_counted_down;
 use std::test::Fail;

@@ -11,7 +11,7 @@ use Rattle.role_workers.specs.declared.seats.LeftBy.{LeftBy}
 use Rattle.role_workers.specs.Seats.{IsLeftOf}
 use Rattle.role_workers.specs.Places.{EachAt}
 
--- the result of the thread with this index satisfies the guarantee with which the thread was started
+-- the result of the thread with this index satisfies the guarantee that the thread was started with
 pub record IsKept {P W : Type 0} (w : Wire.Ghosts W Call Reply) (p : Player.Ghosts P) (handles : List (PromisedHandle (Attended P W) (LeftBy P W))) (k : ℕ) (left : Attended P W) : Type 0 where
   pub handle : PromisedHandle (Attended P W) (LeftBy P W)
   pub is_handle : slice_get handles k ≡ Some handle
