@@ -155,7 +155,7 @@ impl fmt::Display for FileFault {
     }
 }
 
-/// Reports why the file at this path cannot be used. Errors of the stream are ignored.
+/// Reports why the file at this path cannot be used. Ignores errors of the stream.
 pub fn report_unusable_file<E: Write>(errors: &mut E, path: &str, why: FileFault) {
     let mut pieces = Pieces { stream: errors };
     let _ = writeln!(

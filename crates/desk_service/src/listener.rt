@@ -32,7 +32,7 @@ pub enum Listener {
 }
 
 impl Listener {
-    /// The row that tells clients where to connect. If the requested port was 0, the row has the port that the system chose.
+    /// The row with the address that clients can connect to. If the requested port was 0, the row has the port that the system chose.
     pub fn row(&self, alloc: Global, address: &str) -> Result<String, AllocError> {
         if let Listener::Tcp(listener) = self {
             if let Ok(chosen) = listener.local_addr() {

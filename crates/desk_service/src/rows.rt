@@ -41,8 +41,8 @@ fn push_answer(out: &mut Vec<u8>, text: &mut Vec<u8>, reply: &Reply) -> Result<(
     Ok(())
 }
 
-/// Appends the answer to a row, with `text` as a buffer. On an error, appends nothing. If memory ran out, the call may
-/// have been made.
+/// Appends the answer to a row, with `text` as a buffer. On an error, appends nothing. If memory ran out, the desk may
+/// have made the call.
 fn answer_row<O: Object<Call = Call, Reply = Reply>, L: Ledger, R: Wait>(
     serving: &Serving<'_, O, L, R>,
     line: &mut LockLine<L>,

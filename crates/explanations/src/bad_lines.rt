@@ -88,7 +88,7 @@ pub fn push_shown(out: &mut String, line: &[u8]) -> Result<(), AllocError> {
     out.push_str(if line.len() > SHOWN { "..\n" } else { "\n" })
 }
 
-/// Appends to `out` the explanation of a bad line with this number, counted from 1.
+/// Appends to `out` the explanation of the bad line with this number, counted from 1.
 pub fn push_bad_line(
     out: &mut String,
     number: u64,

@@ -36,7 +36,7 @@ IsNotWritten contents is_json verdict fault writer writer' = ((fault ≡ Memory)
     ⊎ ((fault ≡ WriteFault) × (writer'.faults ≡ one_more writer.faults) × ((taken : ℕ) × (taken ≤ length (verdict_line is_json verdict))
     × Appends (contents writer.stream) (contents writer'.stream) (take taken (verdict_line is_json verdict))))
 
--- The error says that a record is not lawful, and the verdict was written before; or the error says why the verdict could not be written.
+-- The error says that a record is not lawful, and the verdict was written first; or the error says why the verdict could not be written.
 abbrev pub TellsFault : {W : Type 0} → (W → Option (List ℕ)) → Bool → VerifyFault → Fault → Counting W → Counting W → Type 0
 TellsFault contents is_json fault told writer writer' = ((told ≡ NotLawful fault) × TellsUnlawful contents is_json fault writer writer')
     ⊎ ((is_json ≡ true) × IsNotWritten contents true (Unlawful fault) told writer writer')

@@ -62,7 +62,7 @@ abbrev pub into_first : List ℕ → List (List (List ℕ)) → List (List (List
 into_first line [] = (line ∷ []) ∷ []
 into_first line (group ∷ more) = (line ∷ group) ∷ more
 
--- the groups of lines that are separated by lines that begin as records do
+-- the groups of lines between the lines that begin as records do
 abbrev pub groups : List (List ℕ) → List (List (List ℕ))
 groups [] = [] ∷ []
 groups (line ∷ more) = if begins_as_record line then [] ∷ groups more else into_first line (groups more)
@@ -144,8 +144,8 @@ IsRefusedAccount is_json rules games before account fault output =
 abbrev pub IsReplayOutput : {G S M : Type 0} → Bool → (G → Rules S M) → List G → ℕ → List (List ℕ) → List ℕ → Type 0
 IsReplayOutput is_json rules games before account output = IsReplayed is_json rules games account output ⊎ ((fault : Fault) × IsRefusedAccount is_json rules games before account fault output)
 
--- Why these lines are not accepted, and what was written: the lines are refused, and the output for this was written; or a write failed,
--- and a prefix of the output was written.
+-- Why replaying these lines fails: the lines are refused, and the output for this was written; or a write failed, and a
+-- prefix of the output was written.
 abbrev pub AccountFails : {G S M W : Type 0} → (W → Option (List ℕ)) → Bool → (G → Rules S M) → List G → ℕ → List (List ℕ) → Counting W → Counting W → Fault → Type 0
 AccountFails contents is_json rules games before account writer writer' fault =
     ((output : List ℕ) × IsRefusedAccount is_json rules games before account fault output × Appends (contents writer.stream) (contents writer'.stream) output × (writer'.faults ≡ writer.faults))

@@ -36,7 +36,7 @@ fn write_verdict<W: Write>(
     Ok(write_all(writer, line.as_bytes())?)
 }
 
-/// The error for a record that is not lawful. As JSON, this first writes the verdict.
+/// The error for a record that is not lawful. If the output is JSON, writes the verdict first.
 fn write_unlawful<W: Write>(
     alloc: Global,
     is_json: bool,
@@ -55,7 +55,7 @@ fn write_unlawful<W: Write>(
 }
 
 /// Reads a record, checks it against the game, and writes that it is lawful. If the record is not lawful, the error
-/// names the first check that failed, and the verdict is written only as JSON. A text that is not JSON is stored as
+/// names the first check that failed, and this writes the verdict only as JSON. Stores a text that is not JSON as
 /// evidence.
 pub fn check_record<G: Game, R: Read, W: Write>(
     alloc: Global,

@@ -36,7 +36,7 @@ pub fn rules_text<'a, F: Files>(
     }
 }
 
-/// The game that a text describes within these limits. A text that does not describe a game is stored as evidence.
+/// The game that a text describes within these limits. Stores a text that does not describe a game as evidence.
 pub fn game_of(
     alloc: Global,
     limits: Limits,
@@ -56,7 +56,7 @@ pub fn game_of(
     }
 }
 
-/// The error for a file of players' rules that is not KIF. The text is stored as evidence.
+/// The error for a file of players' rules that is not KIF. Stores the text as evidence.
 pub fn player_rules_fault(text: Vec<u8>, fault: KifFault, evidence: &mut Evidence) -> Fault
     ensures { (result ≡ Memory) ⊎ (result ≡ BadPlayerRules) }
 {

@@ -1,4 +1,4 @@
-//! Where the log is written.
+//! The target of the log.
 ghost use Rattle.std.specs.Prelude.{IfErr};
 ghost use Rattle.ggp_commands.specs.Tasks.{HasNoLog};
 
@@ -8,7 +8,7 @@ use std::alloc::Global;
 use std::io::ErrorKind;
 use std::rt::Files;
 
-/// Where the log is written.
+/// The target of the log.
 #[derive(Drop)]
 pub enum LogTarget<L> {
     Nowhere,

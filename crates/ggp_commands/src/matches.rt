@@ -389,8 +389,8 @@ where
 }
 
 /// Plays matches of a game and reports on them. The log has each message; `errors` shows the progress if it is a
-/// terminal and the log is not written to it. Matches do not wait until reports are written. Returns the number of
-/// matches without a record, or of bad answers. Also returns the output, so that contracts know its content.
+/// terminal that does not get the log. Matches do not wait until reports are written. Returns the number of matches
+/// without a record, or of bad answers. Also returns the output, so that contracts know its content.
 pub fn play_with_reports<
     'w,
     N: WriterBrand,

@@ -86,7 +86,7 @@ HasFault roles before plan fault =
     (misplaced roles (map (λ it. it.id.now) before) plan.id.now (vec_len plan.players) ≡ Some fault)
     ⊎ ((misplaced roles (map (λ it. it.id.now) before) plan.id.now (vec_len plan.players) ≡ None) × (fault ≡ TooMany) × (length before ≡ 65536))
 
--- the error of a text line with these words after these matches: the error of its words or, if they have none, of its match
+-- the error of a text line with these words after these matches: the error in its words, or else the error of its match
 abbrev pub IsFaultOf : ℕ → ℕ → List MatchPlan → List (List ℕ) → LineFault → Type 0
 IsFaultOf roles strikes before words fault =
     (is_blank_or_comment words ≡ false)

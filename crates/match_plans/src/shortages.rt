@@ -30,8 +30,8 @@ pub enum Shortage {
     Processor,
 }
 
-/// Reports which resource the referee lacked in a match. Such a match has no record, because an answer in it may not be
-/// the player's.
+/// Reports which resource the referee lacked in a match. If it lacked one, the match has no record, because an answer
+/// in it may not be the player's.
 pub trait ReportsShortages {
     /// The reporter has said that the referee lacked no resource in the match with this index.
     ghost is_clear: { Self → ℕ → Type 0 };

@@ -141,7 +141,7 @@ fn waiting_matches<'a>(
 }
 
 impl MatchQueue {
-    /// A queue of all matches. All of them wait.
+    /// A queue of these matches. All of them wait.
     pub fn of(
         alloc: Global,
         plans: &[MatchPlan<'_>],

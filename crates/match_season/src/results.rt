@@ -34,8 +34,8 @@ pub struct MatchResult<N: OutputBrand> {
 #[derive(Drop)]
 pub struct Results<'r, N: OutputBrand> {
     pub receiver: &'r Receiver<MatchResult<N>>,
-    /// Whether all senders are gone, so that no more results can come. In a season this never happens, because the
-    /// season keeps a sender until its end.
+    /// Whether all senders are gone and no more results can come. In a season this never happens, because the season
+    /// keeps a sender until its end.
     pub is_closed: bool,
 }
 

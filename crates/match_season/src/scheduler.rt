@@ -28,8 +28,8 @@ pub enum AfterMatch {
 struct SchedulerState {
     queue: MatchQueue,
     threads: usize,
-    /// Whether the only thread has paused because memory or threads ran out, and each match that has ended since then
-    /// ran out of them too.
+    /// Whether the only thread has paused for lack of memory or threads, and every match that has ended since then ran
+    /// out of them too.
     has_rested: bool,
     /// Whether no more matches may begin.
     is_closed: bool,
@@ -106,7 +106,7 @@ impl SchedulerState {
     }
 }
 
-/// The place where the threads of a season begin and end their matches.
+/// Lets the threads of a season begin and end their matches.
 #[derive(Drop)]
 pub struct Scheduler {
     state: Mutex<SchedulerState>,

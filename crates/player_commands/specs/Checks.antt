@@ -27,7 +27,7 @@ use Rattle.player_commands.specs.declared.check.CheckFault.TheVariants.{WriteFau
 use Rattle.player_commands.specs.declared.watched.Exchange.{Exchange}
 use Rattle.player_commands.specs.declared.watched.CheckedPlayer.{CheckedPlayer}
 
--- the id of the match in which the player has this role
+-- the id of the match that checks the player in this role
 abbrev pub match_id : ℕ → List ℕ
 match_id role = codes "check-" ++ decimal role
 

@@ -1,4 +1,4 @@
--- The plan of the match in which the checked player has a given role.
+-- The plan of the match that checks the player in a given role.
 use Rattle.std.specs.Prelude.{◌≡◌, ◌≢◌, ℕ, ◌<◌, List, length, codes, HoldsAt}
 use Rattle.match_plans.specs.declared.addresses.PlayerAddress.{PlayerAddress}
 use Rattle.match_plans.specs.declared.plan.CheckPlan.{CheckPlan}

@@ -6,7 +6,7 @@ use std::fmt::Write as _;
 use std::io::Write;
 use whole_streams::Pieces;
 
-/// Where to report why a player gave no answer, and whether to report it.
+/// The stream for the reasons why players gave no answer, and whether to write them.
 #[derive(Drop)]
 pub struct Reasons<E> {
     pub errors: E,
@@ -14,7 +14,7 @@ pub struct Reasons<E> {
 }
 
 impl<E: Write> Reasons<E> {
-    /// Reports why a player gave no answer. Errors of the stream are ignored.
+    /// Reports why a player gave no answer. Ignores errors of the stream.
     pub(crate) fn report(&mut self, player: &PlayerAddress<'_>, fault: ContactFault) {
         if self.are_wanted {
             write_reason(&mut self.errors, player, fault);

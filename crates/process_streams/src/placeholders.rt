@@ -7,9 +7,9 @@ use std::{fs, io};
 /// Linux's error number `EBADF`: the descriptor is not open.
 const NOT_OPEN: i32 = 9;
 
-/// If the stream is closed, occupies its descriptor number with a socket without a peer or, if the system refuses that, with the root
-/// directory. Both fail to read and write, as a closed stream does. The system assigns the lowest free number, so call this for lower
-/// numbers first.
+/// If the stream is closed, occupies its descriptor number with a socket without a peer or, if the system refuses that,
+/// with the root directory. Reading and writing fail for both, as for a closed stream. The system assigns the lowest
+/// free number, so call this for lower numbers first.
 fn held(rt: &HostRuntime, stream: BorrowedFd<'_>) -> io::Result<()> {
     // If copying the descriptor fails for any other reason, the stream is open.
     let is_closed = match stream.try_clone_to_owned() {

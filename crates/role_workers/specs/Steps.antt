@@ -47,7 +47,7 @@ events_of brief role (hands_over round owed answer reply) = asking brief role (D
 events_of brief role finds_the_end = asking brief role (Due Over)
 events_of brief role (finds_no_due reply) = asking brief role reply
 
--- the error at which the worker stops after this step
+-- the error that stops the worker after this step
 abbrev pub fault_after : Step → Option AttendFault
 fault_after (rests round) = None
 fault_after (hands_over round owed answer reply) = answer_fault reply

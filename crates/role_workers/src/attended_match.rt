@@ -17,7 +17,7 @@ use std::alloc::{AllocError, Global};
 use std::sync::Wait;
 use std::thread::Threads;
 
-/// The plan of attending a match: the data of START, the players in the order of the roles, and the number of tries of
+/// The plan for attending a match: the data of START, the players in the order of the roles, and the number of tries of
 /// each worker. A worker uses up a try each time it asks what the match owes to its role.
 #[derive(Drop)]
 pub struct AttendancePlan<'r, P> {

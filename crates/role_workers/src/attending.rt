@@ -188,7 +188,7 @@ pub fn attend_shared<W: Wire<Call = Call, Reply = Reply>, P: Player>(
 /// player once, and gives the desk the answer for its round. Returns the number of messages that it sent.
 ///
 /// Each question to the desk uses up one try, even if the player must then wait. After the last try, this stops with
-/// `Stalled`. Whatever was done before an error stays done.
+/// `Stalled`. An error does not undo earlier calls and messages.
 pub fn attend<W: Wire<Call = Call, Reply = Reply>, P: Player>(
     alloc: Global,
     wire: &mut W,

@@ -21,7 +21,7 @@ use std::time::Duration;
 /// could not be made.
 const LONGEST_SLEEP: u64 = 1_000;
 
-/// How many consecutive rounds may run out of memory for a call.
+/// The largest number of consecutive rounds that may run out of memory for a call.
 const MAX_SHORT_ROUNDS: u64 = 10_000;
 
 /// Names the desk under the lock. A contract cannot name a value under a lock, so each match has a type that names its

@@ -16,7 +16,7 @@ HasNoLineFeed bytes = All (λ b. b ≢ line_feed) bytes
 abbrev pub BeginsWithLine : List ℕ → List ℕ → List ℕ → Type 0
 BeginsWithLine bytes line left = (whole : List ℕ) × (bytes ≡ whole ++ line_feed ∷ left) × HasNoLineFeed whole × (line ≡ strip_carriage_return whole)
 
--- whatever follows, the lines of the text are these lines, and then the lines of the bytes that are left
+-- for all bytes that follow, the lines of the text are these lines, and then the lines of the bytes that are left
 abbrev pub BeginsWithLines : List ℕ → List (List ℕ) → List ℕ → Type 0
 BeginsWithLines text first left = (more : List ℕ) → lines (text ++ more) ≡ first ++ lines (left ++ more)
 

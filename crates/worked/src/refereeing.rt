@@ -27,7 +27,7 @@ enum Act {
 }
 
 /// A player that answers PLAY with `play`, and START and STOP as it should. It counts its messages in a counter that
-/// other players can read. If the other player never gets a message, it does not answer START.
+/// other players can read. If it does not see that another player got a message, it does not answer START.
 #[derive(Drop)]
 struct ReadyPlayer<'a, C> {
     clock: &'a C,
