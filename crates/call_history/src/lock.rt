@@ -1,4 +1,4 @@
-//! A desk through which many threads share an object behind a lock.
+//! A desk that lets many threads share an object behind a lock.
 ghost use Rattle.std.specs.Prelude.{◌≡◌, ◌+◌, ◌<◌, ◌≤◌, ◌↔◌, ℕ, [], ◌∷◌, ◌++◌, length, sum, slice_index, IfOk, IfErr, OnOk, OnErr, IsOk, IsErrOf, Contains};
 ghost use Rattle.call_history.specs.History.{IsReplay, EndsLegalHistory};
 ghost use Rattle.call_history.specs.Limits.{max_entries, max_lines};

@@ -57,7 +57,7 @@ fn is_legal<G: Game>(
     Ok(false)
 }
 
-/// The lowest role whose move is not legal in the state.
+/// The lowest role with a move that is not legal in the state.
 fn first_illegal<G: Game>(
     alloc: Global,
     game: &G,

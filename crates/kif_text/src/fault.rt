@@ -7,8 +7,8 @@ use thiserror::Error;
 
 /// Why a text is refused. Offsets count the bytes of the text from 0.
 ///
-/// `TooLong` comes before all other errors. Of all other errors, the reader reports the one with the lowest offset. `Unclosed` and
-/// `Nothing` are found at the end of the text, so they are reported only if there is no other error.
+/// `TooLong` takes precedence over all other errors. Among the others, the reader reports the one with the lowest offset. It
+/// finds `Unclosed` and `Nothing` at the end of the text, so it reports them only if there is no other error.
 #[derive(Clone, Copy, Debug, PartialEq, Eq, Error)]
 pub enum KifFault {
     /// The byte at this offset is outside comments, and is not white space, a parenthesis or an atom byte.

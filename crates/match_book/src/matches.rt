@@ -272,7 +272,7 @@ impl<G: Game> Match<G> {
         }
     }
 
-    /// What the match owes to a role now.
+    /// The message that the match owes to a role now, or the reason why it owes none.
     pub fn owed(&self, alloc: Global, game: &G, role: usize) -> Result<Due, OwedFault>
         requires game { self.now.game ≡ game.now }
         ensures { IsDueAnswer (G.rules self.now.game) self.now.value role result }

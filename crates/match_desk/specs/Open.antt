@@ -1,4 +1,4 @@
--- The conditions under which a match is opened.
+-- The conditions for opening a match.
 use Rattle.std.specs.Prelude.{ℕ, Bool, false, ◌==◌, nat_lt, ◌&&◌, List, [], ◌∷◌, ◌++◌, length, if◌then◌else◌, Option, Some, None, is_none, is_some, option_map, unwrap_or, slice_get}
 use Rattle.std.specs.List.{list_all}
 use Rattle.game_core.specs.Play.{Rules}
