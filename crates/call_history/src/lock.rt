@@ -102,7 +102,7 @@ pub struct Closed<O: Object> {
 /// Why a desk was not closed.
 #[derive(Clone, Copy, Debug, PartialEq, Eq, Error)]
 pub enum CloseFault {
-    /// The lowest number that none of the given lines has.
+    /// The lowest number without a line among the given lines.
     #[error("line {0} is missing")]
     MissingLine(u32),
 }

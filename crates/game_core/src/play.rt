@@ -10,7 +10,7 @@ use std::alloc::{AllocError, Global};
 use thiserror::Error;
 
 /// Why a list of joint moves cannot be played. The error names the first wrong turn. If that turn has several of these errors,
-/// the first one in this list is reported. Turns and roles are numbered from 0.
+/// `play_list` reports the first one in this list. Turns and roles are numbered from 0.
 #[derive(Clone, Copy, Debug, PartialEq, Eq, Error)]
 pub enum PlayFault {
     /// The state before this turn is terminal.

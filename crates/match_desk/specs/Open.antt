@@ -30,7 +30,7 @@ open_tests rules d game setup =
     ∷ ((nat_lt (length d.matches) max_matches, DeskFull)
     ∷ [])))))))
 
--- the first reason why a match cannot be opened, or None if it can
+-- the first reason why the manager cannot open a match, or None if it can
 abbrev pub open_refusal : {G S M : Type 0} → (G → Rules S M) → ManagerValue G M → ℕ → Setup → Option Refusal
 open_refusal rules d game setup = first_refusal (open_tests rules d game setup)
 

@@ -111,7 +111,7 @@ impl<G: Game> Manager<G> {
         self.matches.contains_key(id)
     }
 
-    /// The first reason why a match cannot be opened, or `None` if it can.
+    /// The first reason why the manager cannot open a match, or `None` if it can.
     fn open_refusal(&self, asked: &AskedSetup<'_>) -> Option<Refusal>
         ensures { result ≡ open_refusal G.rules self.now asked.now.game (asked_setup asked.now) }
     {

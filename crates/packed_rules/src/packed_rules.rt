@@ -12,7 +12,7 @@ use std::alloc::{AllocError, Global};
 use std::marker::Model;
 use std::snapshot::Snapshot;
 
-/// The rules with heads that do not depend on moves, and the others. Contracts see the rules that were packed.
+/// The rules with heads that do not depend on moves, and the others. Contracts see the rules before packing.
 #[derive(Drop)]
 pub struct PackedRules {
     /// The number of terms in the row of a state.

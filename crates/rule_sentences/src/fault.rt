@@ -1,4 +1,4 @@
-//! Why a description is refused.
+//! Why the loader refuses a description.
 ghost use Rattle.std.specs.Prelude.{◌≡◌};
 ghost use Rattle.rule_sentences.specs.declared.fault.LoadFault.TheVariants.{Memory};
 
