@@ -26,7 +26,7 @@ IsLawfulMessage (play id moves) = (is_name id ≡ true) × AreMoves moves
 IsLawfulMessage (stop id moves) = (is_name id ≡ true) × AreMoves moves
 IsLawfulMessage (abort id) = is_name id ≡ true
 
--- a lawful message whose text is within the limits of length and depth
+-- a lawful message with a text within the limits of length and depth
 pub record IsSayable (m : MessageValue) : Type 0 where
   pub lawful : IsLawfulMessage m
   pub short : length (canonical (message_form m)) ≤ max_length
