@@ -51,7 +51,7 @@ fn smaller_form(
     })
 }
 
-/// The given form, with fewer matches at once if the descriptors do not allow so many. In that case, reports this.
+/// The given form, with fewer matches at once if the descriptors do not allow so many. If so, also reports the smaller number.
 pub fn allowed_form<F: Files, E: Write>(
     files: &F,
     alloc: Global,

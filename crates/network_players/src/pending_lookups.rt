@@ -18,7 +18,7 @@ const MOST: u64 = 1_024;
 /// The number of descriptors if the limit is unknown.
 const USUAL_DESCRIPTORS: u64 = 1_024;
 
-/// The number of descriptors that are reserved for lookups: a quarter of all, but enough for one lookup, and at most for 1,024.
+/// The number of descriptors that are reserved for lookups: a quarter of all, but enough for at least one lookup and at most 1,024.
 pub fn lookup_descriptors(descriptors: u64) -> u64
     ensures { result ≡ lookup_descriptors descriptors }
 {

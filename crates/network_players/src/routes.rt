@@ -17,7 +17,7 @@ const UNREACHABLE: i32 = 101;
 /// How often the way to an address is determined, because a computer with several default routes may use them in turn.
 const MAX_SOURCES: u32 = 8;
 
-/// The address of this computer from which it reaches others of the same family.
+/// The address that this computer uses to reach other addresses of the same family.
 pub(crate) fn any_address(address: &SocketAddr) -> SocketAddr
     ensures { is_ipv4 (socket_ip result) ≡ is_ipv4 (socket_ip address.now) }
 {
@@ -52,8 +52,8 @@ fn route_shortage(error: &io::Error) -> Shortage
 
 /// A network with known routes.
 pub trait Routes: Net {
-    /// The address of this computer from which packets to the given address travel, with the port 0. The error means that there is no route,
-    /// or no socket to find it out. Sends nothing.
+    /// The address of this computer that sends packets to the given address, with the port 0. The error means that there is no route, or no
+    /// socket to find the route. Sends nothing.
     fn source(&self, address: &SocketAddr) -> io::Result<SocketAddr>;
 
     /// Tries to send an empty datagram to the address. Only this computer's interfaces, routes and firewall can make this fail: the socket is
@@ -119,7 +119,7 @@ pub(crate) fn lack_of_network<N: Routes>(net: &N) -> Option<Shortage> {
     lack_of_route(net, &outside(false))
 }
 
-/// What this computer lacked before or lacks now, if it had or has no network.
+/// What this computer lacked before or lacks now, if it had no network before or has none now.
 pub(crate) fn lack_since<N: Routes>(net: &N, before: Option<Shortage>) -> Option<Shortage>
     ensures { IfSome before (λ shortage. result ≡ Some shortage) }
 {
