@@ -52,8 +52,8 @@ fn route_shortage(error: &io::Error) -> Shortage
 
 /// A network with known routes.
 pub trait Routes: Net {
-    /// The address of this computer that sends packets to the given address, with the port 0. The error means that there is no route, or no
-    /// socket to find the route. Sends nothing.
+    /// The address of this computer that packets to the given address leave from, with port 0. The error means that there is no route, or
+    /// no socket to find the route. Sends nothing.
     fn source(&self, address: &SocketAddr) -> io::Result<SocketAddr>;
 
     /// Tries to send an empty datagram to the address. Only this computer's interfaces, routes and firewall can make this fail: the socket
