@@ -31,7 +31,7 @@ is_open settled place = not (get_or settled place true)
 abbrev pub mark : List Bool → ℕ → ℕ
 mark settled place = if get_or settled place false then 1 else 0
 
--- a list of this index, if the result of the match is a record and the match is not settled yet; otherwise an empty list
+-- a list of only this index, if the result of the match is a record and the match is not settled yet; otherwise an empty list
 abbrev pub places_of : {T E : Type 0} → Written → ℕ → Result T E → List ℕ
 places_of written place outcome = if is_ok outcome && is_open written.is_settled.items place then place ∷ [] else []
 

@@ -78,7 +78,7 @@ failed_halt WouldBlock number = Some (faults.Late Unconnected)
 failed_halt TimedOut None = Some (faults.Late Unconnected)
 failed_halt kind number = short_halt (system_shortage kind number)
 
--- the codes by which threads share what the referee lacks
+-- the codes that threads use to share what the referee lacks
 abbrev pub shortage_codes : List (ℕ × Shortage)
 shortage_codes = (1, Descriptors) ∷ (2, Ports) ∷ (3, Memory) ∷ (4, Clock) ∷ (5, Resolver) ∷ (6, Network) ∷ (7, Processor) ∷ []
 

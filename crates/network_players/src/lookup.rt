@@ -145,8 +145,8 @@ fn query_of(
     Ok(Arc::new(alloc, query)?)
 }
 
-/// Starts a lookup, or joins one of the same host. If the host is an address, the lookup needs no resolver and is made at once. The error is
-/// what the referee lacks for the lookup.
+/// Starts a lookup, or joins a lookup of the same host. If the host is an address, the lookup needs no resolver and is made at once. The
+/// error is what the referee lacks for the lookup.
 fn begun<N: Resolves>(
     net: &N,
     alloc: Global,
@@ -166,7 +166,7 @@ fn begun<N: Resolves>(
     }
 }
 
-/// The time that is requested for the start of the lookup. An address needs no resolver: if its lookup takes time, the referee was not running.
+/// The time requested for starting the lookup. An address needs no resolver: if its lookup takes time, the referee was not running.
 fn longest_begin<N: Resolves>(net: &N, player: &PlayerAddress<'_>, left: Duration) -> Duration {
     if is_address(player.host) {
         Duration::ZERO
@@ -230,9 +230,9 @@ impl Lookup {
         }
     }
 
-    /// Looks up the addresses of the player's host, for as long as the message has time. After a lookup has found some, later calls return the
-    /// same addresses. A lookup that takes longer continues for the next message. If the lookup takes too long while this computer has no
-    /// network, the referee lacks a network.
+    /// Looks up the addresses of the player's host, for as long as the message has time. After a lookup has found some, later calls
+    /// return the same addresses. A lookup that takes longer continues for the next message. If it takes too long while this computer has
+    /// no network, the referee lacks a network.
     pub fn look_up<N: Resolves + Clock>(
         &mut self,
         net: &N,

@@ -52,12 +52,12 @@ fn route_shortage(error: &io::Error) -> Shortage
 
 /// A network with known routes.
 pub trait Routes: Net {
-    /// The address of this computer that sends packets to the given address, with the port 0. The error means that there is no route, or no
-    /// socket to find the route. Sends nothing.
+    /// The address of this computer that packets to the given address leave from, with port 0. The error means that there is no route, or
+    /// no socket to find the route. Sends nothing.
     fn source(&self, address: &SocketAddr) -> io::Result<SocketAddr>;
 
-    /// Tries to send an empty datagram to the address. Only this computer's interfaces, routes and firewall can make this fail: the socket is
-    /// new, so it cannot have received a reply.
+    /// Tries to send an empty datagram to the address. Only this computer's interfaces, routes and firewall can make this fail: the socket
+    /// is new, so it cannot have received a reply.
     fn probe(&self, address: &SocketAddr) -> io::Result<()>;
 }
 
@@ -93,8 +93,8 @@ fn lack_of_route<N: Routes>(net: &N, address: &SocketAddr) -> Option<Shortage> {
     }
 }
 
-/// What this computer lacks if packets to the IPv4 address no longer leave from `home`, its own address from which they left before. A route that
-/// refuses only this address does not count. An IPv6 address does not count, because a router can change routes and addresses of IPv6.
+/// What this computer lacks if packets to the IPv4 address no longer leave from `home`, the address that they left from before. A route
+/// that refuses only this address does not count. An IPv6 address does not count, because a router can change routes and addresses of IPv6.
 pub(crate) fn lack_of_home<N: Routes>(
     net: &N,
     home: &SocketAddr,

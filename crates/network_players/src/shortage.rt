@@ -81,7 +81,7 @@ pub(crate) fn lookup_shortage(
     }
 }
 
-/// The code by which threads share what the referee lacks.
+/// The code that threads use to share what the referee lacks.
 pub(crate) fn code_of(shortage: Shortage) -> u64
     ensures { coded_shortage result ≡ Some shortage }
 {
