@@ -1,4 +1,4 @@
-//! Laws of call logs, for every desk.
+//! Laws about the texts of call logs, for every desk.
 ghost use Rattle.std.specs.Prelude.{◌≡◌, List, Some, true};
 ghost use Rattle.std.specs.List.{AllByRecursion};
 ghost use Rattle.std.specs.Str.Lines.{lines};

@@ -1,4 +1,4 @@
--- Laws of the definitions, for a lawful game.
+-- Laws about lawful matches and the answers in them, for a lawful game.
 use Rattle.std.specs.Prelude.{◌≡◌, ◌≢◌, ◌↔◌, ◌⊎◌, ℕ, ◌+◌, ◌<◌, ◌≤◌, true, false, List, [], ◌∷◌, ◌++◌, length, Some, None, All, replicate, slice_get, slice_index_or, slice_set}
 use Rattle.game_core.specs.Canonical.{IsFoldedText}
 use Rattle.game_core.specs.Play.{Rules, AreLegal}

@@ -1,4 +1,4 @@
-//! Laws of the definitions, for every game.
+//! Laws about lawful matches and the answers in them, for every game.
 //!
 //! A law without arguments is about every game of a type: name the type when you call it.
 ghost use Rattle.match_book.specs.Laws.{NewMatchIsLawful, AnswersKeepLawful, AbortKeepsLawful, RecordedMovesAreLegal, NoErrorMeansNamed, AnswersInPlay, AnswersOutOfPlay, TakenForTheRound, OwedAnswersAreTaken, TurnsLeadToStates, TurnsHaveMoves, OneMoreTurn, StrikesBegin, StrikesOfOneMore, FewStrikes, StartingMeans, PlayingMeans, StoppingMeans, BegunRoundsAreOpen, RoundsEnd, NoneIsAnswered, OwedIsAnswered, OthersAreUntouched, AllAreAnswered, ReadingsAreFolded};

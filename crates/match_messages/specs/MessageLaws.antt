@@ -1,4 +1,4 @@
--- Laws of messages.
+-- Laws about reading the text of a message.
 use Rattle.std.specs.Prelude.{◌≡◌, ℕ, ◌≤◌, true, List, [], ◌∷◌, length, Option, Some, None, slice_index_or, Ok}
 use Rattle.game_core.specs.Expression.{Expressions, none, more, HasAtoms, AllHaveAtoms, depth, max_depth}
 use Rattle.game_core.specs.Canonical.{canonical}

@@ -1,4 +1,4 @@
-//! Laws of messages.
+//! Laws about reading the text of a message.
 ghost use Rattle.match_messages.specs.MessageLaws.{MessagesReadBack, OwedMessagesReadBack};
 
 use desk_calls::laws::names_are_atoms;
