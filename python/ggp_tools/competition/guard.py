@@ -40,7 +40,7 @@ def end(process: int, seconds: float) -> None:
 
 
 def end_marked(value: str) -> None:
-    """Kills the processes whose mark is `value`, and all processes that these processes start meanwhile."""
+    """Kills the processes whose mark is `value`, and all processes that these processes start in the meantime."""
     until = time.monotonic() + END_SECONDS
     while (processes := marked(value)) and (left := until - time.monotonic()) > 0:
         for process in processes:

@@ -146,7 +146,7 @@ class Playing:
         if (fault := self.reporter.journal.fault) and not self.is_full:
             self.is_full = True
             self.reporter.line(f"{fault.filename} can't be written: {fault.strerror}; no more matches begin")
-        # Matches whose players are being asked can't begin any more. They are cancelled, because their launcher may take long.
+        # Matches whose players are being asked can no longer begin. They are cancelled, because their launcher may take long.
         for open_match, task in self.open.items() if not self.may_begin() else ():
             if open_match.stage == ASKING and not task.cancelling():
                 self.waiting.append(open_match.match)
@@ -341,7 +341,7 @@ def prepare(playing: Playing) -> None:
 
 def play(playing: Playing) -> dict[str, str]:
     """Plays all matches. The caller must have locked the directory. Returns the reason for each match without a lawful record, by match id."""
-    # The usual limit of open files is too low for many open matches.
+    # The usual limit on open files is too low for many open matches.
     allow_files()
     if sys.version_info < (3, 12):
         # The default child watcher would start a thread for each process.

@@ -26,7 +26,7 @@ METHOD = (
 
 
 def forfeit_rule(competition: Competition) -> str:
-    """Explains how a player forfeits a match, and which goals count then. If no player can forfeit a match, the text is empty."""
+    """Explains how a player forfeits a match, and which goals count then. If no player can forfeit a match, returns an empty string."""
     most = competition.faults.replaced
     conditions = ["it was retired"] * competition.forfeit + [f"{most:,} or more of its moves were replaced (forced moves do not count)"] * bool(most)
     counts = (
