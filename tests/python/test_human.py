@@ -95,7 +95,7 @@ class Seats(unittest.TestCase):
         self.seat.page_opens(1)
 
     def ask(self, text):
-        """Lets the seat answer a message in another thread, as the server does with messages of the referee."""
+        """Lets the seat answer a message in another thread, as the server does with messages from the referee."""
         thread = threading.Thread(target=lambda: self.answers.append(self.seat.answer(text)))
         thread.start()
         return thread
@@ -361,7 +361,7 @@ class Pages(unittest.TestCase):
         return line.getresponse()
 
     def post(self, message, source="127.0.0.1"):
-        """Returns the answer to a message of a referee."""
+        """Returns the answer to a message from a referee."""
         return self.request("POST", "/", message, source=source).read()
 
     def of_page(self, name=""):
