@@ -1,5 +1,5 @@
 """Competitions by rounds, in a directory: each round follows from the records of the previous one, and any other schedule is refused. The referee is
-fake, and the records have only the keys that determine a result."""
+fake, and the records contain only the keys that determine a result."""
 
 import json
 import pathlib

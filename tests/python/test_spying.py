@@ -82,7 +82,7 @@ class Spying(Served):
             self.assertEqual(self.all_pages(), before, text)
         self.say(self.log, lines[-1])
         after = self.all_pages()
-        # The first event of a page is the end of the round. An open page has the same data as a new one.
+        # The first event of a page is the end of the round. An open page shows the same data as a new one.
         for answer, path in zip(events, ("/", f"/matches/{self.match.id}.html")):
             self.assertNotEqual(after[path], before[path])
             told = str(self.next_event(answer))

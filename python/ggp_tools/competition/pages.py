@@ -368,7 +368,7 @@ class Pages:
         self.make_matches(left)
 
     def make_matches(self, works: list[tuple[str, str, tuple]]) -> None:
-        """Writes pages of matches. Each item of `works` has the name and the key of a page, and the arguments of `match_page`."""
+        """Writes pages of matches. Each item of `works` consists of the name and the key of a page, and the arguments of `match_page`."""
         for (name, key, _), data in zip(works, made_side_by_side(match_page, [work for _, _, work in works])):
             self.put(name, data)
             if self.known:

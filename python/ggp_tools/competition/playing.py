@@ -245,8 +245,8 @@ def seconds_left(
 ) -> float | None:
     """Estimates how many seconds the remaining matches take. Returns None until the first match has ended. The estimate is the maximum of
     three times: for the longest open match, for the player with the most left to play, and for all matches if as many as allowed are played
-    at the same time. `open_matches` has the time since each open match began. If a game has no finished matches, the mean of the
-    other games is used."""
+    at the same time. `open_matches` gives the time since each open match began. If a game has no finished matches, the mean of the other games is
+    used."""
     times = [seconds for game in took.values() for seconds in game]
     if not times:
         return None
