@@ -117,8 +117,8 @@ def install(packages: Sequence[str]) -> bool:
 
 
 def lack_of_rights() -> str | None:
-    """The gate's tests make networks, mount a disk and run as another user. If they cannot run in this process, returns the reason,
-    otherwise None."""
+    """Returns the reason why the gate's tests cannot run in this process, or None if they can. These tests make networks, mount a disk and run as
+    another user."""
     if os.geteuid():
         return 'the gate needs root, because its tests make networks and mount disks: type: sudo env "PATH=$PATH" make gate'
     made = subprocess.run(["unshare", "--net", "--mount", "true"], stdin=subprocess.DEVNULL, stderr=subprocess.PIPE, text=True)

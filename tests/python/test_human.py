@@ -219,7 +219,7 @@ class Seats(unittest.TestCase):
         self.assertEqual((self.answers, self.seat.answer("(PLAY M NIL)")), (["busy"], "noop"))
 
     def late(self, name):
-        """Makes a call of the game of this match wait. Returns the events that it has begun, and that it may end."""
+        """Makes a call of this match's game wait. Returns two events: the call has begun, and the call may end."""
         is_begun, may_end, call = threading.Event(), threading.Event(), getattr(self.seat.shown, name)
         self.addCleanup(may_end.set)
 

@@ -1,7 +1,7 @@
 """Reads the state of the matches from the directory of a competition: which are open, whose answers they wait for, and which are over. It writes
 nothing, and starts only the referee's desk.
 
-The players of an open match can read the pages too. So the pages show only what follows from finished rounds and from the clock of this computer,
+The players of an open match can read the pages too. So the pages show only the facts that follow from finished rounds and from this computer's clock,
 with one exception: in the second half of the clock of an open round, they also name players that have not answered. A round is START, a turn, or the
 end. It is finished once all of its roles have answered or were replaced."""
 
@@ -88,13 +88,13 @@ class Snapshot(NamedTuple):
 
 
 class Delay:
-    """Remembers the directory, and returns it as it was this many seconds ago. This depends on the clock of this computer, because the times of files
-    may be wrong."""
+    """Remembers the directory, and returns it as it was this many seconds ago. This depends on this computer's clock, because the times of files may
+    be wrong."""
 
     def __init__(self, seconds: float = 0.0) -> None:
         self.seconds = seconds
         self.snapshots: deque[Snapshot] = deque()
-        # Other values, each with the time since which it is unchanged.
+        # Other values, each with the time of its last change.
         self.values: dict[str, tuple[object, float]] = {}
         self.is_new = True
         # The matches of plans that are not shown yet. Their files are remembered from now on.
@@ -177,7 +177,7 @@ class LiveMatch:
         return None if self.tail.is_behind or self.board.is_known_further() else self.turn()
 
     def is_over(self) -> bool:
-        """Returns whether all have answered STOP or ABORT."""
+        """Returns whether all roles have answered STOP or ABORT."""
         return len(self.ends) == len(self.match.players)
 
     def is_ending(self) -> bool:

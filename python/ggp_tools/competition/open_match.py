@@ -47,7 +47,7 @@ def reason_of(done: Done, player: str) -> str:
 
 
 class OpenMatch:
-    """An open match. At its end, it has either a result or the reason why it has none. If it has neither, it will be played later."""
+    """An open match. At its end, it has a result or the reason why it has no result. If it has neither, it will be played later."""
 
     def __init__(self, playing: "Playing", match: Match) -> None:
         self.playing, self.match = playing, match

@@ -147,7 +147,7 @@ def fault_of_record(record: dict, match: Match, strikes: int) -> str | None:
 
 
 def kind_of(error: str) -> str:
-    """Returns the kind of an error. It does not contain the answer of the player."""
+    """Returns the kind of an error, without the player's answer."""
     return "IL" if error.startswith("IL ") else error
 
 
