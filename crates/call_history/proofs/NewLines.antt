@@ -7,9 +7,6 @@ use Rattle.std.proofs.Math.Dec.{eqb}
 use Rattle.call_history.specs.declared.port.Port.{Port}
 use Rattle.call_history.specs.RingLines.{LineValue, posted_calls, taken_replies, AreNewLines, IsNewLine, IsPortOf}
 
-pub at_last : {X : Type 0} (xs : List X) (x : X) (i : ℕ) (d : X) → i ≡ length xs → get_or (xs ++ x ∷ []) i d ≡ x
-at_last xs x i d e = grind (arith, common_steps)
-
 module _ {C R : Type 0} where
   pub new_lines_snoc : (ps : List (Port C R)) (ls : List (LineValue C R)) (p : Port C R) (l : LineValue C R)
       → length ps ≡ length ls → AreNewLines ps ls → l.number ≡ length ls → IsPortOf p l → posted_calls l ≡ [] → taken_replies l ≡ []

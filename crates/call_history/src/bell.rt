@@ -1,4 +1,4 @@
-//! How the thread of a desk over rings and the threads of its lines wake each other.
+//! Wakes the sleeping thread of a desk over rings, and notifies its lines when the desk stops.
 use std::sync::Wait;
 use std::sync::atomic::{AtomicU64, Ordering};
 use std::time::Duration;

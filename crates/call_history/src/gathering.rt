@@ -35,8 +35,8 @@ fn note_numbers<N: Numbered>(lines: &[N], found: &mut [bool])
     }
 }
 
-/// The lowest number that has a place in `found` and that no line has. If there is no such number, all of `found` is
-/// set to true.
+/// The lowest number with a place in `found` that is not the number of a line. If there is none, this sets all of `found`
+/// to true.
 pub(crate) fn lowest_missing<N: Numbered>(lines: &[N], found: &mut [bool]) -> Option<u32>
     requires { length found.old < 2 ^ 32 }
     ensures some { IfSome result (λ n. IsLowestMissing (map N.number lines.now) (length found.old) n) }
@@ -53,7 +53,7 @@ pub(crate) fn lowest_missing<N: Numbered>(lines: &[N], found: &mut [bool]) -> Op
 }
 
 /// Combines the shares of the lines, and stores how many calls each line made. A place of `awaited` is true until the line
-/// with that number has come. A second line with the same number is dropped. A line whose number has no place is also dropped.
+/// with that number has come. Drops a second line with the same number, and a line with a number that has no place.
 pub(crate) fn gather<L: Ledger>(
     lines: Vec<LockLine<L>>,
     awaited: &mut [bool],

@@ -10,13 +10,13 @@ use std::error::Error;
 use std::fmt;
 use std::marker::Model;
 
-/// The largest number of entries that a history can be opened for.
+/// The largest number of entries of a history.
 pub const MAX_ENTRIES: u64 = 1_000_000;
 
-/// Why a call was not made. The history does not have the call, and nothing has changed.
+/// Why the journal did not make a call. The call is not in the history, and nothing has changed.
 #[derive(Clone, Copy, Debug, PartialEq, Eq)]
 pub enum CallFault {
-    /// The history has as many entries as it was opened for.
+    /// The history is full: it has as many entries as the journal accepts.
     Full,
     /// Out of memory.
     Memory,

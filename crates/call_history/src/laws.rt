@@ -1,4 +1,4 @@
-//! Laws of the definitions of this crate. Each is a function that does nothing.
+//! Laws about legal histories and the limits of a desk. Each law is a function that does nothing.
 //!
 //! The definitions read a history from its front. Two laws give the values of these definitions for a history with one
 //! more entry at its end. By induction, they determine the values for each history. One law states that the constants are

@@ -1,5 +1,5 @@
-//! Objects that reply to calls, the history of their calls, and desks through which many threads share an object: behind a
-//! lock, or over rings.
+//! Objects that reply to calls, the history of their calls, and desks that let many threads share an object behind a lock
+//! or over rings.
 //!
 //! One thread can replay the history: each stored reply is the reply of the plain object at that point, and making the
 //! calls in order leads to the object.

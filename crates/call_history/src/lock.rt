@@ -1,4 +1,4 @@
-//! A desk through which many threads share an object behind a lock.
+//! A desk that lets many threads share an object behind a lock.
 ghost use Rattle.std.specs.Prelude.{◌≡◌, ◌+◌, ◌<◌, ◌≤◌, ◌↔◌, ℕ, [], ◌∷◌, ◌++◌, length, sum, slice_index, IfOk, IfErr, OnOk, OnErr, IsOk, IsErrOf, Contains};
 ghost use Rattle.call_history.specs.History.{IsReplay, EndsLegalHistory};
 ghost use Rattle.call_history.specs.Limits.{max_entries, max_lines};
@@ -102,7 +102,7 @@ pub struct Closed<O: Object> {
 /// Why a desk was not closed.
 #[derive(Clone, Copy, Debug, PartialEq, Eq, Error)]
 pub enum CloseFault {
-    /// The lowest number that none of the given lines has.
+    /// The lowest number without a line among the given lines.
     #[error("line {0} is missing")]
     MissingLine(u32),
 }

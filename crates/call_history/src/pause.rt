@@ -10,8 +10,8 @@ const SPINS: u32 = 64;
 /// The number of further rests that yield the processor to another thread, before the thread sleeps.
 const YIELDS: u32 = 8;
 
-/// Counts the rests in a row of the thread that serves a desk. The thread finds a call that comes soon without delay, and
-/// sleeps during a long wait, so that the wait takes no processor time.
+/// Counts how often in a row the thread of a desk rests. In a short wait the thread does not sleep, so it finds a call without
+/// delay. In a long wait it sleeps, so the wait takes no processor time.
 #[derive(Drop)]
 pub struct Pause<'a> {
     bell: &'a Bell,
@@ -51,7 +51,7 @@ impl<'a> Pause<'a> {
         }
     }
 
-    /// Ends the rests in a row, because the thread found a call.
+    /// Starts a new count, because the thread found a call.
     pub fn end(&mut self) {
         self.spins = SPINS;
         self.yields = YIELDS;

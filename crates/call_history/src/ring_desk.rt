@@ -51,7 +51,7 @@ pub struct DeskFault {
 /// Why a desk over rings was not closed.
 #[derive(Clone, Copy, Debug, PartialEq, Eq, Error)]
 pub enum RingCloseFault {
-    /// The lowest number that none of the given ends has.
+    /// The lowest number without an end among the given ends.
     #[error("line {0} is missing")]
     MissingLine(u32),
     /// The lowest number of a line with a call that is waiting or kept.

@@ -28,7 +28,7 @@ impl<O: Object> Model for RingWire<O> {
 }
 
 impl<O: Object> RingWire<O> {
-    /// Creates a wire to a desk whose thread does not sleep. For each call it tries at most `tries` times to post the call
+    /// Creates a wire to a desk that never sleeps. For each call the wire tries at most `tries` times to post the call
     /// and to take the reply. If the reply has not come by then, the wire stalls.
     pub fn new(line: RingLine<O>, tries: u64) -> RingWire<O>
         ensures line { result.line ≡ line }
@@ -43,7 +43,7 @@ impl<O: Object> RingWire<O> {
         }
     }
 
-    /// Creates a wire to a desk whose thread may sleep: after each post it rings this bell. The wire also stalls when the
+    /// Creates a wire to a desk that may sleep: after each post the wire rings this bell. The wire also stalls when the
     /// desk makes no further calls.
     pub fn with_bell(line: RingLine<O>, tries: u64, bell: Arc<Bell>) -> RingWire<O>
         ensures line { result.line ≡ line }

@@ -10,7 +10,7 @@ use std::fmt;
 /// Why a call got no reply.
 #[derive(Clone, Copy, Debug, PartialEq, Eq)]
 pub enum AskFault {
-    /// The history has as many entries as it was opened for.
+    /// The history is full: it has as many entries as its journal accepts.
     Full,
     /// Out of memory.
     Memory,
@@ -41,8 +41,8 @@ impl From<CallFault> for AskFault {
     }
 }
 
-/// A caller's way to make calls within one process, one after another, and to take the reply to each. It is not a network
-/// connection. A wire always belongs to the same line of a desk.
+/// A caller's connection to a desk in the same process. The caller makes calls one after another, and takes the reply to
+/// each. A wire is not a network connection. It always belongs to the same line of a desk.
 ///
 /// A wire may show its calls and its replies to contracts. A wire over a lock shows neither.
 pub trait Wire {

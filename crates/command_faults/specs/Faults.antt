@@ -31,17 +31,17 @@ reading_fault named InputReadFault = File named Unread
 reading_fault named TooLong = File named FileTooLong
 reading_fault named InputMemory = Memory
 
--- turns an error of standard input into one of the input file
+-- turns an error of standard input into the same error of the input file
 abbrev pub input_file_fault : Fault → Fault
 input_file_fault ReadFault = File Input Unread
 input_file_fault InputTooLong = File Input FileTooLong
 input_file_fault fault = fault
 
--- the fault is out of memory, or says why the file for this use cannot be read
+-- the error is out of memory, or says why the file for this use cannot be read
 abbrev pub IsFileFault : NamedFile → Fault → Type 0
 IsFileFault named fault = (fault ≡ Memory) ⊎ ((why : FileFault) × (fault ≡ File named why))
 
--- If a file is refused for its size, the error has its size and this limit. The size exceeds the limit.
+-- If a file is refused for its size, the error gives its size and this limit. The size exceeds the limit.
 abbrev pub NamesSize : MaxBytes → Fault → Type 0
 NamesSize limit (File named (TooLarge size accepted)) = (accepted ≡ limit) × (limit.bytes < size)
 NamesSize limit fault = Unit {0}

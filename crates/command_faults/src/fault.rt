@@ -54,10 +54,10 @@ pub enum Fault {
     NotLawful(VerifyFault),
     /// This many lines of the input are not lawful records. All verdicts were written.
     UnlawfulRecords(u64),
-    /// The line of the call log with this number has no valid call.
+    /// The line of the call log with this number does not contain a valid call.
     NoEntry(u64),
     /// The call in the line with this number gets a different reply, or the line is not in canonical form. The output
-    /// has the correct line.
+    /// contains the correct line.
     Differs(u64),
     /// This many lines of a script are bad. The whole output was written.
     BadLines(u64),

@@ -109,7 +109,7 @@ pub enum FileFault {
     Unopened,
     Unread,
     Unwritten,
-    /// The file has this many bytes, which is more than it may have.
+    /// The file is this many bytes long, which is more than the limit.
     TooLarge(u64, MaxBytes),
     /// The file's content, or one of its lines, is longer than the limit.
     TooLong,
@@ -119,7 +119,7 @@ pub enum FileFault {
     InUse,
     /// The file's incomplete end cannot be moved to another file.
     Unmended,
-    /// The file has a record with an incomplete call log.
+    /// The file contains a record with an incomplete call log.
     Partial,
     /// Another file or stream of the command is the same file.
     Shared,
@@ -226,7 +226,7 @@ pub fn input_file_fault(fault: Fault) -> Fault
     }
 }
 
-/// The size of a file that has more bytes than the limit. If the size is not known, as for a pipe, this is the limit
+/// The size of a file that is larger than the limit. If the size is not known, for example of a pipe, this is the limit
 /// plus 1.
 fn size_above<F: Files>(files: &F, path: &str, limit: u32) -> u64
     ensures { limit < result }

@@ -1,6 +1,6 @@
 //! The errors of the program, and the files that a command line names.
 //!
-//! `Fault` has every error, with its message and exit status. Free functions take the allocator first, after a handle for files.
+//! `Fault` lists every error, with its message and exit status. Free functions take the allocator first, after a handle for files.
 #![tactic(auto)]
 
 mod fault;

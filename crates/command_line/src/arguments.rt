@@ -114,7 +114,7 @@ fn limits(found: &ArgMatches<'_>) -> Limits {
     }
 }
 
-/// The game's source. The command line must have exactly one option that names a source.
+/// The game's source. The command line must contain exactly one option that names a source.
 fn game_source<'a>(found: &ArgMatches<'a>) -> Result<GameSource<'a>, WrongValue<'a>> {
     let limits = limits(found);
     let size = found.get_str("countdown");

@@ -387,7 +387,7 @@ static COMMANDS: [CommandForm; 8] = [
         arguments: &DESK,
         notes: concat!(
             "Example: ggp_manager desk --countdown 3 match.script\n\n",
-            "status 0: every line is a valid call. 1: a line is invalid, or another error. ",
+            "status 0: every line is a valid call. 1: a line is invalid, or another error occurred. ",
             "2: usage error. 3: out of memory. With --why, 2: any error except an invalid line.",
         ),
     },
@@ -408,7 +408,7 @@ static COMMANDS: [CommandForm; 8] = [
         notes: concat!(
             "A line of the schedule: ID START PLAY NAME@HOST:PORT .. - the match id, the two clocks in seconds, and one player for each role. Empty lines and lines that begin with # are skipped. With --records, no record is printed.\n\n",
             "Example: ggp_manager season --rules-file game.kif --records season.records schedule\n\n",
-            "status 0: every match has a record. 1: a match has no record, or another error. ",
+            "status 0: every match has a record. 1: a match has no record, or another error occurred. ",
             "2: usage error. 3: out of memory. With --why, 2: any error.",
         ),
     },
@@ -418,7 +418,7 @@ static COMMANDS: [CommandForm; 8] = [
         arguments: &VERIFY,
         notes: concat!(
             "Example: ggp_manager verify --rules-file game.kif --lines season.records\n\n",
-            "status 0: every record is lawful. 1: a record is not lawful, or another error. ",
+            "status 0: every record is lawful. 1: a record is not lawful, or another error occurred. ",
             "2: usage error. 3: out of memory. With --why, 2: any error except an unlawful record.",
         ),
     },
@@ -428,7 +428,7 @@ static COMMANDS: [CommandForm; 8] = [
         arguments: &REPLAY,
         notes: concat!(
             "Example: ggp_manager replay --rules-file game.kif match.account\n\n",
-            "status 0: every call gets the logged reply. 1: a call gets a different reply, or another error. ",
+            "status 0: every call gets the logged reply. 1: a call gets a different reply, or another error occurred. ",
             "2: usage error. 3: out of memory. With --why, 2: any error except a different reply.",
         ),
     },
@@ -438,7 +438,7 @@ static COMMANDS: [CommandForm; 8] = [
         arguments: &INFO,
         notes: concat!(
             "Example: ggp_manager info ann@127.0.0.1:9147\n\n",
-            "status 0: the player answered. 1: the player did not answer, or another error. ",
+            "status 0: the player answered. 1: the player did not answer, or another error occurred. ",
             "2: usage error. 3: out of memory. With --why, 2: any error except a missing answer.",
         ),
     },
@@ -448,7 +448,7 @@ static COMMANDS: [CommandForm; 8] = [
         arguments: &CHECK,
         notes: concat!(
             "Example: ggp_manager check --rules-file game.kif --play 5 ann@127.0.0.1:9147\n\n",
-            "status 0: no answer was bad. 1: an answer was bad, or another error. ",
+            "status 0: no answer was bad. 1: an answer was bad, or another error occurred. ",
             "2: usage error. 3: out of memory. With --why, 2: any error except a bad answer.",
         ),
     },
@@ -458,7 +458,7 @@ static COMMANDS: [CommandForm; 8] = [
         arguments: &ABORT,
         notes: concat!(
             "Example: ggp_manager abort m1 ann@127.0.0.1:9147 bob@127.0.0.1:9148\n\n",
-            "status 0: every player answered. 1: a player did not answer, or another error. ",
+            "status 0: every player answered. 1: a player did not answer, or another error occurred. ",
             "2: usage error. 3: out of memory. With --why, 2: any error except a missing answer.",
         ),
     },

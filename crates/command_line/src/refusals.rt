@@ -29,7 +29,7 @@ fn is_option(argument: &str, option: &str) -> bool {
     }
 }
 
-/// Whether a command line has one of the `EXPLAINED_COMMANDS` or `EXPLAINED_OPTIONS`. If so, the program prints an
+/// Whether a command line contains one of the `EXPLAINED_COMMANDS` or `EXPLAINED_OPTIONS`. If so, the program prints an
 /// explanation before the error, even if standard error is not a terminal.
 pub fn always_explains(arguments: &[String]) -> bool {
     let is_own = |argument: &String| EXPLAINED_OPTIONS
@@ -44,7 +44,7 @@ pub fn always_explains(arguments: &[String]) -> bool {
     }
 }
 
-/// Whether a command line has `--why` or `--json`. With either, the program prints the explanation even if standard error is not
+/// Whether a command line contains `--why` or `--json`. With either, the program prints the explanation even if standard error is not
 /// a terminal, and its exit status is 1 for a negative answer and 2 for any other error. Arguments after `--` are not options.
 pub fn asks_why(arguments: &[String]) -> bool {
     for argument in arguments {

@@ -70,7 +70,7 @@ pub enum MatchTask<'a> {
 pub struct GameOptions<'a> {
     pub game: GameSource<'a>,
     pub player_rules: Option<&'a str>,
-    /// A dash means standard error. Without a file nothing is logged.
+    /// A dash means standard error. Without a file, the program logs nothing.
     pub log: Option<&'a str>,
 }
 

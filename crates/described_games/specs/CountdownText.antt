@@ -3,7 +3,7 @@ use Rattle.std.specs.Prelude.{ℕ, zero, suc, ◌+◌, nat_lt, List, [], ◌∷�
 use Rattle.std.specs.Fmt.{decimal}
 use Rattle.game_core.specs.Bytes.{line_feed}
 
--- the rules that are the same for every heap: whose turn it is, the legal moves, the end of the game, and the goals
+-- the rules that are the same for every heap: the order of the turns, the legal moves, the end of the game, and the goals
 abbrev pub turn_rules : List (List ℕ)
 turn_rules =
     codes "(role red) (role blue) (init (turn red))"

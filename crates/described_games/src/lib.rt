@@ -1,6 +1,6 @@
 //! Makes games from the texts of their descriptions.
 //!
-//! `described_game` returns the game or an error, which `explanations` describes in more detail. `countdown_rules` writes
+//! `described_game` returns the game or an error; `explanations` describes the error in more detail. `countdown_rules` writes
 //! the description of Countdown.
 #![tactic(auto)]
 

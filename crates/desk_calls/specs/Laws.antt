@@ -1,4 +1,4 @@
--- Laws of the definitions.
+-- Laws about ids and the names of players.
 use Rattle.std.specs.Prelude.{◌≡◌, ℕ, true, List}
 use Rattle.game_core.specs.Expression.{IsAtom}
 use Rattle.desk_calls.specs.Names.{is_name}

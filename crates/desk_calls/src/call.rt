@@ -18,7 +18,7 @@ pub enum Call {
         strikes: u32,
         players: Texts,
     },
-    /// Asks what the match owes to a role.
+    /// Asks for the message that the match owes to a role.
     Next {
         id: Text,
         role: usize,
@@ -89,7 +89,7 @@ pub enum Refusal {
     NoRole,
     /// The match is finished or aborted.
     Over,
-    /// The answer is not for the present round, which has this number.
+    /// The answer is for another round. The present round has this number.
     Stale(u64),
     /// The role has already answered this round.
     Twice,

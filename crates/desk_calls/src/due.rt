@@ -1,4 +1,4 @@
-//! What a match owes to a role.
+//! The messages that a match owes to a role.
 use game_core::Texts;
 
 /// A message that a match owes to a role. PLAY and STOP have the texts of the last joint move, in the order of the roles, or
@@ -11,7 +11,7 @@ pub enum Owed {
     Abort,
 }
 
-/// What the match owes to a role now.
+/// The message that a match owes to a role now, or the reason why it owes none.
 #[derive(Drop)]
 pub enum Due {
     /// The match owes the role this message, and expects an answer for this round.

@@ -1,4 +1,4 @@
-//! Laws of the definitions.
+//! Laws about ids and the names of players.
 ghost use Rattle.desk_calls.specs.Laws.{NamesAreAtoms};
 
 /// A lawful id, or a lawful name of a player, is an atom.

@@ -1,7 +1,7 @@
 //! The calls of a desk and their replies, with the types in them: names and clocks, the setup of a match, the messages that
 //! a match owes to a role, a player's answer, and the status of a match.
 //!
-//! `match_desk` defines what each call does.
+//! `match_desk` defines the effect of each call.
 #![tactic(auto)]
 
 mod answer;

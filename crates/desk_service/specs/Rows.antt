@@ -16,12 +16,12 @@ use Rattle.desk_service.specs.declared.ending.Ending.TheVariants.{Left, Broken, 
 abbrev pub max_row : ℕ
 max_row = 1048576
 
--- the beginning of a row, before its line feed has come
+-- the beginning of a row, before its line feed has arrived
 abbrev pub IsPartialRow : List ℕ → Type 0
 IsPartialRow row = (length row ≤ max_row) × HasNoLineFeed row
 
--- The answer to a row. If the row has a call, the line makes this call, the answer is the reply, and the entry of the call is legal. If the
--- row has no call, the answer is `badline`.
+-- The answer to a row. If the row contains a call, the line makes this call, the answer is the reply, and the entry of the call is legal.
+-- If the row contains no call, the answer is `badline`.
 abbrev pub AnswersCall : (Entry Call Reply → Type 0) → LockLineValue → LockLineValue → Option Call → List ℕ → List ℕ → Type 0
 AnswersCall legal line line' asked out out' = MatchOption asked
     ((line'.made ≡ line.made) × (out' ≡ out ++ (codes "badline" ++ line_feed ∷ [])))

@@ -93,7 +93,7 @@ impl<'a> Connections<'a> {
                 return Some(stream);
             }
             drop(open);
-            // The system lacks descriptors or memory, or the client has already gone away.
+            // The system is out of descriptors or memory, or the client has already disconnected.
             thread::sleep(rt, Duration::from_millis(REST));
         }
         unreachable!()
@@ -108,7 +108,7 @@ impl<'a> Connections<'a> {
     }
 
     /// Ends the service: accepts no more connections, and reads no more from the open ones. Waits up to `GRACE` seconds
-    /// until all have ended, and then cuts the remaining ones. Returns whether it cut a connection.
+    /// until all connections have ended, and then cuts the remaining ones. Returns whether it cut a connection.
     pub(crate) fn end<R: Clock + Wait>(&self, rt: &R) -> bool {
         let mut open = self.open.lock(rt);
         open.has_ended = true;

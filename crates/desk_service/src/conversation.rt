@@ -96,7 +96,7 @@ where
 }
 
 /// Answers the rows of a client in order, until the conversation ends, and then writes the last row, if there is one. A
-/// row is complete once its line feed has come; the service makes no call for an incomplete row.
+/// row is complete when its line feed has arrived; the service makes no call for an incomplete row.
 pub fn converse<O, L: Ledger, R: Wait, I: Read, W: Write>(
     serving: &Serving<'_, O, L, R>,
     line: &mut LockLine<L>,

@@ -9,7 +9,7 @@ use std::os::unix::net::UnixListener;
 
 /// A runtime that opens listening sockets.
 pub trait Listens {
-    /// Listens at `HOST:PORT`, or makes a socket file for `unix:PATH`, where no file may exist.
+    /// Listens on `HOST:PORT`, or creates a socket file for `unix:PATH`, where no file may exist.
     fn listen(&self, address: &str) -> io::Result<Listener>;
 }
 
@@ -32,7 +32,7 @@ pub enum Listener {
 }
 
 impl Listener {
-    /// The row with the address that clients can connect to. If the requested port was 0, the row has the port that the system chose.
+    /// The row with the address that clients can connect to. If the requested port was 0, the row contains the port that the system chose.
     pub fn row(&self, alloc: Global, address: &str) -> Result<String, AllocError> {
         if let Listener::Tcp(listener) = self {
             if let Ok(chosen) = listener.local_addr() {
@@ -42,7 +42,7 @@ impl Listener {
         format!(in alloc; "listening on {address}\n")
     }
 
-    /// Waits for the next connection. Once the socket is shut down, this fails at once.
+    /// Waits for the next connection. After the socket has been shut down, this fails at once.
     pub(crate) fn accept(&self) -> io::Result<TcpStream> {
         match self {
             Listener::Tcp(listener) => {

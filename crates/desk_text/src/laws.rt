@@ -1,4 +1,4 @@
-//! Laws of call logs, for every desk.
+//! Laws about the texts of call logs, for every desk.
 ghost use Rattle.std.specs.Prelude.{◌≡◌, List, Some, true};
 ghost use Rattle.std.specs.List.{AllByRecursion};
 ghost use Rattle.std.specs.Str.Lines.{lines};
@@ -7,7 +7,7 @@ ghost use Rattle.desk_calls.specs.declared.call.Call.{Call};
 ghost use Rattle.desk_text.specs.Account.{IsCall, IsEntry, Tell, account_call, call_text, entry_text, history_text};
 ghost use Rattle.desk_text.specs.AccountLines.{HasReplyNumbers, is_account_line};
 
-/// A call whose fields fit their types can be read from its text, so different calls have different texts.
+/// If the fields of a call fit their types, the call can be read from its text. So different calls have different texts.
 pub fn calls_are_read()
     ensures { (call : Call) → IsCall call → account_call (call_text call) ≡ Some call }
 {}
@@ -18,8 +18,8 @@ pub fn histories_are_read()
     ensures { (history : List (Entry _ _)) → AllByRecursion IsEntry history → Tell (lines (history_text history)) history }
 {}
 
-/// The text of an entry whose fields fit their types has the form that `is_account_line` recognizes, so this text is never
-/// mistaken for a record.
+/// If the fields of an entry fit their types, the entry's text has the form that `is_account_line` recognizes. So this text
+/// is never mistaken for a record.
 pub fn entries_have_their_form()
     ensures { (e : _) → IsEntry e → HasReplyNumbers e.reply → is_account_line (entry_text e) ≡ true }
 {}

@@ -8,7 +8,7 @@ pub struct LineFault {
     pub kind: FaultKind,
 }
 
-/// What is wrong with a line.
+/// The kind of an error in a line.
 #[derive(Clone, Copy)]
 pub enum FaultKind {
     /// The first word of the call is not a keyword.

@@ -30,7 +30,7 @@ fn difference(entry: &[u8], right: &[u8]) -> BadLine {
     BadLine::new(at, words)
 }
 
-/// The line with this number, counted from 1. The text must have at least that many lines.
+/// The line with this number, counted from 1. The text must contain at least that many lines.
 fn line_at(text: &[u8], number: u64) -> &[u8] {
     let mut line = text;
     let mut rest = text;

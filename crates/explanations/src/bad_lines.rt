@@ -1,9 +1,9 @@
-//! Explains a line that has no valid call.
+//! Explains a line that does not contain a valid call.
 
 use desk_text::{FaultKind, LineFault, call_of, first_line, first_piece};
 use std::alloc::{AllocError, Global};
 
-/// The forms of lines with a call. The first word of each is its keyword.
+/// The forms of lines with a call. The first word of each form is its keyword.
 static FORMS: [&str; 7] = [
     "open ID GAME START PLAY PLAYER ..",
     "strict ID GAME START PLAY STRIKES PLAYER ..",

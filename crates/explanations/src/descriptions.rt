@@ -207,8 +207,8 @@ fn push_kind(
     }
 }
 
-/// A line with a hint on how to fix the error, or an empty text. A text that is not empty but has no lists may be the
-/// name of a file.
+/// A line with a hint on how to fix the error, or an empty string. A text that is not empty but contains no lists may be
+/// the name of a file.
 fn remedy(text: &[u8], fault: DescriptionFault) -> &'static str {
     match fault {
         DescriptionFault::Unfit(LoadFault::NoRole) if !text.is_empty() && !text.contains(&b'(') => {

@@ -42,7 +42,7 @@ TellsFault contents is_json fault told writer writer' = ((told ≡ NotLawful fau
     ⊎ ((is_json ≡ true) × IsNotWritten contents true (Unlawful fault) told writer writer')
 
 -- The meaning of an error, given the bytes that were read, the reader before and after, and the writer. Nothing is written except
--- a verdict, or, if the write fails, a prefix of the verdict. A record is checked only after all of it was read.
+-- a verdict, or, if the write fails, a prefix of the verdict. A record is checked only after the whole record was read.
 abbrev pub CheckFails : {S M R W : Type 0} → (R → Option (List ℕ)) → (W → Option (List ℕ)) → Bool → Rules S M → Fault → List ℕ → Counting R → Counting R → Counting W → Counting W → Type 0
 CheckFails remaining contents is_json g ReadFault given reader reader' writer writer' = (length given ≤ max_record) × StopsReading (length given) reader reader' × (writer' ≡ writer)
 CheckFails remaining contents is_json g InputTooLong given reader reader' writer writer' = (max_record < length given) × (reader'.faults ≡ reader.faults) × (writer' ≡ writer)

@@ -125,7 +125,7 @@ HoldsOfGame (Described source limits) Holds = (text : List ℕ) × (game : Packe
 abbrev pub IsRefused : Limits → List ℕ → Fault → Type 0
 IsRefused limits text fault = (fault ≡ Memory) ⊎ ((fault ≡ BadDescription) × DescribesNone limits text)
 
--- unless memory runs out, the error for a source without a game
+-- unless memory runs out, the error for a source that gives no game
 abbrev pub HasNoGame : GameSource → Fault → Type 0
 HasNoGame (OfCountdown size) fault = (fault ≡ WrongUse) × ¬ ((1 ≤ size) × (size ≤ max_heap))
 HasNoGame (Described source limits) fault = HasNoText source fault ⊎ ((text : List ℕ) × IsTextOf source text × IsRefused limits text fault)

@@ -127,7 +127,7 @@ abbrev pub refused_line : List ℕ → ℕ → List ℕ
 refused_line verdict line = codes "{\"verdict\":\"" ++ (verdict ++ (codes "\",\"line\":" ++ (decimal line ++ codes "}\n")))
 
 -- The output for a refused call log that follows this many lines of other call logs. As JSON, it is the verdict. In plain text, it is the
--- correct line if the first wrong line has a call, and otherwise nothing.
+-- correct line if the first wrong line contains a call, and otherwise nothing.
 abbrev pub refused_output : Bool → ℕ → ReplayFault → List ℕ
 refused_output is_json before ReplayMemory = []
 refused_output true before (ReplayNoEntry place why) = refused_line (codes "no_entry") (before + place)
@@ -144,7 +144,7 @@ IsRefusedAccount is_json rules games before account fault output =
 abbrev pub IsReplayOutput : {G S M : Type 0} → Bool → (G → Rules S M) → List G → ℕ → List (List ℕ) → List ℕ → Type 0
 IsReplayOutput is_json rules games before account output = IsReplayed is_json rules games account output ⊎ ((fault : Fault) × IsRefusedAccount is_json rules games before account fault output)
 
--- Why replaying these lines fails: the lines are refused, and the output for this was written; or a write failed, and a
+-- Why replaying these lines fails: the lines are refused, and the output for the refusal was written; or a write failed, and a
 -- prefix of the output was written.
 abbrev pub AccountFails : {G S M W : Type 0} → (W → Option (List ℕ)) → Bool → (G → Rules S M) → List G → ℕ → List (List ℕ) → Counting W → Counting W → Fault → Type 0
 AccountFails contents is_json rules games before account writer writer' fault =

@@ -22,7 +22,7 @@ pub struct Answers {
     pub bad_lines: u64,
 }
 
-/// Appends the answer to one line. Returns whether the line has a valid call.
+/// Appends the answer to one line. Returns whether the line contains a valid call.
 pub(crate) fn answer_line<O: Object<Call = Call, Reply = Reply>>(
     alloc: Global,
     object: &mut O,

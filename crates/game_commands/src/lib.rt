@@ -1,6 +1,6 @@
 //! The commands that need one game and no players: `desk`, `verify` and `replay`.
 //!
-//! `for_game` runs one of them. It stores an `Evidence`, so that `explanations` can explain the result. Free functions
+//! `for_game` runs one of these commands. It stores an `Evidence`, so that `explanations` can explain the result. Free functions
 //! take the allocator first, after a handle for files.
 #![tactic(auto)]
 

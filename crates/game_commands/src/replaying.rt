@@ -21,7 +21,7 @@ use whole_streams::{LineBuffer, NextLine, write_all};
 /// The largest size of a call log, in bytes: 256 MiB. Each line end counts as two bytes.
 const MAX_ACCOUNT: usize = 268_435_456;
 
-/// The number of matches that are not over. If the call log lacks its last calls, there is at least one.
+/// The number of matches that are not over. If the last calls of the call log are missing, at least one match is not over.
 fn open_matches<G: Game>(manager: &Manager<G>) -> usize
     ensures { result ≡ open_matches G.rules manager.now }
 {
@@ -36,7 +36,7 @@ fn open_matches<G: Game>(manager: &Manager<G>) -> usize
 }
 
 /// The output line for a replayed call log, with the number of calls and the number of matches that are not over. As
-/// JSON, it also has the number of all matches.
+/// JSON, it also gives the number of all matches.
 fn replayed_line(
     alloc: Global,
     is_json: bool,

@@ -16,7 +16,7 @@ use std::alloc::Global;
 use std::borrow::CowSlice;
 use std::rt::Files;
 
-/// The text of a description. If it is a file, the file must be within these limits.
+/// The text of a description. If the description is in a file, the file must be within these limits.
 pub fn rules_text<'a, F: Files>(
     files: &F,
     alloc: Global,

@@ -1,4 +1,4 @@
--- The game of Countdown: two roles take turns to take one or two from a heap. The role that must move when the heap is empty loses.
+-- The game of Countdown: two roles alternately take one or two from a heap. If a role must move when the heap is empty, it loses.
 use Rattle.std.specs.Prelude.{ℕ, zero, suc, ◌-◌, ◌==◌, nat_le, ◌≤◌, if◌then◌else◌, List, [], ◌∷◌, ◌++◌, Option, Some, None, slice_index_or, codes}
 use Rattle.std.specs.Fmt.{decimal}
 use Rattle.game_core.specs.declared.countdown.Position.{Position}
@@ -11,7 +11,7 @@ use Rattle.game_core.specs.Play.{Rules}
 abbrev pub max_heap : ℕ
 max_heap = 100
 
--- how many a move takes
+-- the number that a move takes from the heap
 abbrev pub count_of : Take → ℕ
 count_of Noop = 0
 count_of One = 1
@@ -36,7 +36,7 @@ side_name Blue = codes "blue"
 abbrev pub turn_text : Side → List ℕ
 turn_text side = codes "(turn " ++ side_name side ++ codes ")"
 
--- the moves of the role whose turn it is
+-- the moves of the role to move
 abbrev pub takes : ℕ → List Take
 takes heap = if nat_le 2 heap then One ∷ (Two ∷ []) else (One ∷ [])
 
@@ -48,18 +48,18 @@ take_text Noop = codes "noop"
 take_text One = codes "(take 1)"
 take_text Two = codes "(take 2)"
 
--- the position after a joint move; only the role whose turn it is takes from the heap
+-- the position after a joint move; only the role to move takes from the heap
 abbrev pub next_position : Position → List Take → Position
 next_position p joint = record { heap = p.heap - count_of (slice_index_or joint (role_of p.on_turn) Noop); on_turn = other_side p.on_turn }
 
 abbrev pub position_texts : Position → List (List ℕ)
 position_texts p = (codes "(heap " ++ decimal p.heap ++ codes ")") ∷ (turn_text p.on_turn ∷ [])
 
--- if the heap is empty, the role whose turn it is loses
+-- if the heap is empty, the role to move loses
 abbrev pub goal_at : Position → ℕ → Option ℕ
 goal_at p role = if p.heap == 0 then (if role_of p.on_turn == role then Some 0 else Some 100) else None
 
--- the game whose heap has n at the start
+-- the game that starts with a heap of n
 abbrev pub countdown : ℕ → Rules Position Take
 countdown n = record {
   roles = 2;

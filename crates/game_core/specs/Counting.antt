@@ -1,7 +1,7 @@
 -- A counted stream as contracts see it.
 use Rattle.std.specs.Prelude.{ℕ, ◌<◌, ◌≤◌, ◌+◌, ◌-◌, ◌^◌, min, List, length, Result, Ok, Err, if◌then◌else◌, ◌&&◌, ◌==◌, nat_lt}
 
--- a stream with two counts: its reads and writes, and those of them that failed
+-- a stream with two counts: all reads and writes, and the failed ones
 pub record Counting (S : Type 0) : Type 0 where
   pub stream : S
   pub calls : ℕ
@@ -28,7 +28,7 @@ abbrev pub after_read : {E : Type 0} → Result ℕ E → ℕ → ℕ
 after_read (Ok n) faults = faults
 after_read (Err e) faults = one_more faults
 
--- the number of failures after a write of these bytes; a write that is given at least one byte and writes none has failed
+-- the number of failures after a write of these bytes; a write of at least one byte fails if it writes none
 abbrev pub after_write : {E : Type 0} → Result ℕ E → List ℕ → ℕ → ℕ
 after_write (Ok n) bytes faults = if n == 0 && nat_lt 0 (length bytes) then one_more faults else faults
 after_write (Err e) bytes faults = one_more faults

@@ -1,5 +1,5 @@
--- Tests for the texts of a game: texts that pass are lawful. For each test, a lemma states what passing it shows. If a test has no free
--- variable, `refl` proves that it passes. The proofs are in this file because the laws of a game may import only from specs.
+-- Tests for the texts of a game: texts that pass are lawful. For each test, a lemma states its meaning. If a test has no free variable,
+-- `refl` proves that it passes. The proofs are in this file because the laws of a game may import only from specs.
 use Rattle.std.specs.Prelude.{ℕ, ◌≡◌, ◌≢◌, ◌<◌, ◌%◌, ◌+◌, ◌^◌, ◌⊎◌, ◌==◌, ◌&&◌, ◌||◌, not, nat_lt, nat_le, bytes_eq, Bool, true, false, List, [], ◌∷◌, ◌++◌, length, map, max, All, AllPairs}
 use Rattle.std.specs.List.{list_all}
 use Rattle.std.specs.Fmt.{decimal}

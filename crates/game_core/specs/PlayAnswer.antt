@@ -4,7 +4,7 @@ use Rattle.game_core.specs.declared.play.PlayFault.{PlayFault}
 use Rattle.game_core.specs.declared.play.PlayFault.TheVariants.{AfterEnd, WrongWidth, Illegal, Memory}
 use Rattle.game_core.specs.Play.{Rules, play, AreLegal}
 
--- this role is the lowest one whose move is not legal
+-- this role is the lowest one with a move that is not legal
 pub record IsFirstIllegal {S M : Type 0} (g : Rules S M) (s : S) (joint : List M) (role : ℕ) : Type 0 where
   pub within : role < length joint
   pub illegal : (d : M) → ¬ (Contains (g.legal s role) (slice_index_or joint role d))

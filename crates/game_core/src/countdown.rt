@@ -10,8 +10,8 @@ const ROLES: usize = 2;
 
 const MAX_HEAP: u8 = 100;
 
-/// Two roles, `red` and `blue`, take turns to take one or two from a heap; red begins. The role that must move when the
-/// heap is empty loses: its goal is 0, and the other role's is 100.
+/// Two roles, `red` and `blue`, alternately take one or two from a heap; red begins. If a role must move when the heap is
+/// empty, it loses: its goal is 0, and the other role's is 100.
 #[derive(Drop)]
 pub struct Countdown {
     pub size: u8,
@@ -22,7 +22,7 @@ pub struct Countdown {
 /// A move.
 #[derive(Clone, Copy, Debug, PartialEq, Eq)]
 pub enum Take {
-    /// `noop`: the only legal move of the role whose turn it is not.
+    /// `noop`: a role's only legal move when it is not the role's turn.
     Noop,
     /// `(take 1)`.
     One,
@@ -37,7 +37,7 @@ pub enum Side {
     Blue,
 }
 
-/// A state: the size of the heap, and whose turn it is.
+/// A state: the size of the heap, and the role to move.
 #[derive(Clone, Copy, Debug, PartialEq, Eq)]
 pub struct Position {
     pub heap: u8,
@@ -45,7 +45,7 @@ pub struct Position {
 }
 
 impl Countdown {
-    /// Returns the game whose heap has `size` at the start, or `None` if `size` is not 1 to 100.
+    /// Returns the game that starts with a heap of `size`, or `None` if `size` is not 1 to 100.
     pub fn new(size: u8) -> Option<Countdown>
         ensures some { IsSome result ↔ ((1 ≤ size) × (size ≤ max_heap)) }
         ensures value { IfSome result (λ g. g.size ≡ size) }
@@ -111,7 +111,7 @@ impl Side {
         }
     }
 
-    /// In the text of a state, the term that names the role whose turn it is.
+    /// The term for the role to move, in the text of a state.
     fn term(self) -> &'static [u8]
         ensures { result.now ≡ turn_text self }
     {

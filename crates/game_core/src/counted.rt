@@ -12,8 +12,8 @@ use std::marker::Model;
 /// that has not ended.
 pub const MAX_STREAM_CALLS: u32 = 200_000;
 
-/// A stream that counts its failed reads and writes. A call fails if it returns `Err`, even for an interruption, or if it is
-/// a write that is given at least one byte and writes none. The count stops at 2^64 - 1.
+/// A stream that counts its failed reads and writes. A call fails if it returns `Err`, even for an interruption. A
+/// write of at least one byte also fails if it writes none. The count stops at 2^64 - 1.
 ///
 /// Contracts also see the number of all calls, for clauses that limit reads or writes.
 ///

@@ -1,4 +1,4 @@
-//! Laws of the definitions.
+//! Laws about the decimal texts of numbers.
 ghost use Rattle.game_core.specs.Laws.{NumbersAreAtoms, NumbersArePlain, NumbersReadBack};
 
 /// The decimal text of a number below 2^64 is an atom and a plain numeral of that number. For a limit below 2^64, a word

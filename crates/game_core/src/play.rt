@@ -10,7 +10,7 @@ use std::alloc::{AllocError, Global};
 use thiserror::Error;
 
 /// Why a list of joint moves cannot be played. The error names the first wrong turn. If that turn has several of these errors,
-/// the first one in this list is reported. Turns and roles are numbered from 0.
+/// `play_list` reports the first one in this list. Turns and roles are numbered from 0.
 #[derive(Clone, Copy, Debug, PartialEq, Eq, Error)]
 pub enum PlayFault {
     /// The state before this turn is terminal.
@@ -57,7 +57,7 @@ fn is_legal<G: Game>(
     Ok(false)
 }
 
-/// The lowest role whose move is not legal in the state.
+/// The lowest role with a move that is not legal in the state.
 fn first_illegal<G: Game>(
     alloc: Global,
     game: &G,

@@ -28,7 +28,7 @@ is_no (BadLines count) = true
 is_no (BadAnswers count) = true
 is_no fault = false
 
--- The exit status for an error. The Bool says whether the command line has `--why` or `--json`.
+-- The exit status for an error. The Bool says whether the command line contains `--why` or `--json`.
 abbrev pub status_of : Bool → Fault → ℕ
 status_of false fault = plain_status fault
 status_of true fault = if is_no fault then 1 else 2

@@ -26,7 +26,7 @@ abbrev pub IsRefusedFor : PlayableGame → MatchPlan → Refusal → Type 0
 IsRefusedFor game plan reason = (setup : Setup) × IsSetupOf plan setup × (packed_refusal game.game.now setup ≡ Some reason)
 
 -- The output of a single match that ended with this error: a prefix of the match's whole output if a write failed, and
--- otherwise nothing. If the desk refused the match, the error has the reason for this.
+-- otherwise nothing. If the desk refused the match, the error gives the reason.
 abbrev pub WritesRunUpTo : {P : Type 0} → (RolePlace → PlayerAddress → P → Type 0) → (P → Option (List Handed)) → PlayableGame → RunPlan → Option (List ℕ) → Option (List ℕ) → Fault → Type 0
 WritesRunUpTo is_reached handed game run old new WriteFault = (line : List ℕ) × (history : _) × IsPlannedMatch is_reached handed game 0 run.plan line history
     × AppendsPart old new (match_text line history run.has_history)

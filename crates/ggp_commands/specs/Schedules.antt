@@ -31,7 +31,7 @@ abbrev pub WritesPlansUpTo : {P : Type 0} → (RolePlace → PlayerAddress → P
 WritesPlansUpTo is_reached handed game form plans fault old new =
     (why : SeasonFault) × (fault ≡ season_fault why) × WritesUpTo (IsOutputOf is_reached handed game plans form.has_history) form.order (length plans) old new why
 
--- This is written to the named file, and the output does not change. If no file is named, this is written to the output.
+-- The text is written to the named file, and the output does not change. If no file is named, the text is written to the output.
 abbrev pub GoesTo : {F : Type 0} → Option F → (Option (List ℕ) → Option (List ℕ) → Type 0) → Option (List ℕ) → Option (List ℕ) → Type 0
 GoesTo file Writes old new = MatchOption file (Writes old new) (λ name. (new ≡ old) × ((before : Option (List ℕ)) × (after : Option (List ℕ)) × Writes before after))
 

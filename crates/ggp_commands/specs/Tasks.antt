@@ -80,7 +80,7 @@ Plays H is_reached handed remaining contents plan task reader reader' writer wri
     × WritesTask H is_reached handed game task input count (contents writer.stream) (contents writer'.stream)
 
 -- Why the task was not run, or did not succeed. If it has no game, no log or no input, it did not begin and wrote nothing. Otherwise the
--- error has the number of missing matches or of bad answers, or the task ended with this error.
+-- error gives the number of missing matches or of bad answers, or the task ended with this error.
 abbrev pub FailsToPlay : (H : Type 0) → {P R W : Type 0} → (RolePlace → PlayerAddress → P → Type 0) → (P → Option (List Handed)) → (R → Option (List ℕ)) → (W → Option (List ℕ)) → GameOptions → MatchTask → Counting R → Counting R → Counting W → Counting W → Fault → Type 0
 FailsToPlay H is_reached handed remaining contents plan task reader reader' writer writer' fault = (IsNotBegun remaining plan task fault reader reader' × (writer' ≡ writer))
     ⊎ (((count : ℕ) × (count ≢ 0) × (fault ≡ task_fault task (Ok count)) × Plays H is_reached handed remaining contents plan task reader reader' writer writer' count)

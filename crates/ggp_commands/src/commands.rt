@@ -128,7 +128,7 @@ fn end<E: Write>(performed: Result<(), Fault>, why: bool, errors: &mut E) -> u8
 }
 
 /// Writes the error as a line, and returns the exit status. Ignores errors of the stream. `why` says whether the
-/// command line has `--why` or `--json`.
+/// command line contains `--why` or `--json`.
 pub fn report<E: Write>(errors: &mut E, fault: Fault, why: bool) -> u8
     ensures { result ≡ status_of why fault }
 {
@@ -137,7 +137,7 @@ pub fn report<E: Write>(errors: &mut E, fault: Fault, why: bool) -> u8
     status_of(fault, why)
 }
 
-/// The task of these arguments. If they are refused, stores the message as evidence.
+/// The task of these arguments. If the arguments are refused, stores the message as evidence.
 fn task_of<'a>(
     alloc: Global,
     arguments: &'a [&'a str],

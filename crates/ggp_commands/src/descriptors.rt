@@ -1,4 +1,4 @@
-//! How many matches the limit of file descriptors allows at once.
+//! How many matches the limit on file descriptors allows at once.
 ghost use Rattle.std.specs.Prelude.{◌≡◌, ◌⊎◌, ◌<◌, ℕ, IfNone, IfSome, min};
 ghost use Rattle.ggp_commands.specs.Descriptors.{Allows, IsLargest};
 
@@ -11,12 +11,12 @@ use std::io::Write;
 use std::rt::Files;
 use whole_streams::Pieces;
 
-/// The number of descriptors for the streams and the files, which are needed besides the players' connections and the
-/// lookups of hosts.
+/// The number of descriptors for the streams and the files. The players' connections and the lookups of hosts need
+/// other descriptors.
 const KEPT: u64 = 16;
 
 /// The largest number of simultaneous matches with this many players that the descriptors allow, if each player has one
-/// connection. It is at least 1.
+/// connection. The number is at least 1.
 fn allowed_matches(descriptors: u64, players: u64) -> u64
     ensures { IsLargest descriptors players result }
 {
@@ -51,7 +51,7 @@ fn smaller_form(
     })
 }
 
-/// The given form, with fewer matches at once if the descriptors do not allow so many. In that case, reports this.
+/// The given form, with fewer matches at once if the descriptors do not allow so many. If so, also reports the smaller number.
 pub fn allowed_form<F: Files, E: Write>(
     files: &F,
     alloc: Global,

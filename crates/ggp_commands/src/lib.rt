@@ -1,4 +1,4 @@
-//! The commands of the program `ggp_manager`: those of `game_commands`; `run`, `season` and `check`, which play
+//! The commands of the program `ggp_manager`: the commands of `game_commands`; `run`, `season` and `check`, which play
 //! matches; and `info` and `abort`, which send messages to single players.
 //!
 //! `command` runs a command line over any streams, runtime and players; the program passes its own. Free functions take

@@ -1,4 +1,4 @@
-//! The target of the log.
+//! Opens the log: a file or standard error.
 ghost use Rattle.std.specs.Prelude.{IfErr};
 ghost use Rattle.ggp_commands.specs.Tasks.{HasNoLog};
 

@@ -388,7 +388,7 @@ where
     performed
 }
 
-/// Plays matches of a game and reports on them. The log has each message; `errors` shows the progress if it is a
+/// Plays matches of a game and reports on them. The log reports each message; `errors` shows the progress if it is a
 /// terminal that does not get the log. Matches do not wait until reports are written. Returns the number of matches
 /// without a record, or of bad answers. Also returns the output, so that contracts know its content.
 pub fn play_with_reports<

@@ -60,7 +60,7 @@ fn report_torn_end<E: Write>(errors: &mut E, path: &str, first: Option<u64>, tor
     };
 }
 
-/// Reports that a record in the middle of a file has an incomplete call log.
+/// Reports that the call log of a record in the middle of a file is incomplete.
 fn report_partial<E: Write>(errors: &mut E, path: &str, line: u64) {
     let mut pieces = Pieces { stream: errors };
     let _ = writeln!(

@@ -223,7 +223,7 @@ where
 }
 
 /// Listens at the address of the plan, and serves the plan's games until the input ends. At the end, removes the socket
-/// file that it has made, if there is one.
+/// file that this function has created, if there is one.
 pub fn serve<H, R: Read, W: Write, E: Write>(
     rt: &H,
     alloc: Global,

@@ -202,7 +202,7 @@ pub fn refuse_shared<F: Files, E: Write>(
     Ok(())
 }
 
-/// Reports which file an error is about, unless this was already reported.
+/// Reports which file an error is about, unless the command has already reported the file.
 pub fn report_faulty_file<E: Write>(alloc: Global, task: &Task<'_>, fault: Fault, errors: &mut E) {
     let Fault::File(named, why) = fault else {
         return;
@@ -212,7 +212,7 @@ pub fn report_faulty_file<E: Write>(alloc: Global, task: &Task<'_>, fault: Fault
     };
     for file in &used {
         let is_it = match file.role {
-            // A desk that listens may have several games. It has already reported which one cannot be used.
+            // A desk that listens may have several games. It has already reported which game cannot be used.
             Role::Rules => matches!(named, NamedFile::Rules) && !matches!(task, Task::Serve(_)),
             Role::PlayerRules => matches!(named, NamedFile::PlayerRules),
             Role::NamedInput => matches!(named, NamedFile::Input),

@@ -2,7 +2,7 @@
 
 use std::alloc::Global;
 
-/// Whether standard error and standard output are terminals, and whether the command line has `--why` or `--json`.
+/// Whether standard error and standard output are terminals, and whether the command line contains `--why` or `--json`.
 #[derive(Clone, Copy)]
 pub struct Terminals {
     pub errors: bool,

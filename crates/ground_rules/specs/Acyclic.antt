@@ -1,4 +1,4 @@
--- Rules in which no derived atom depends on itself.
+-- Rules without a derived atom that depends on itself.
 use Rattle.std.specs.Prelude.{ℕ, ◌<◌, List, [], ◌∷◌}
 use Rattle.numbered_rules.specs.Literals.{Rule, AllAtomsAre}
 

@@ -42,7 +42,7 @@ at_turn g s joint = situation (g.state_text s) (names_of g g.roles) (map g.move_
 pub record IsGameOf {S M : Type 0} (d : Description) (g : Rules S M) : Type 0 where
   pub roles : names_of g g.roles ≡ role_names d
   pub initial : (v : Derived → Bool) → Fits (situation [] [] []) d v → (t : List ℕ) → is_among (g.state_text g.initial) t ≡ v (Init t)
-  -- the legal moves are in the order in which their heads first appear
+  -- the legal moves are in the order of the first appearance of their heads
   pub legal : (s : S) (r : ℕ) (v : Derived → Bool) → g.IsState s → r < g.roles → Fits (at_rest g s) d v
       → map g.move_text (g.legal s r) ≡ filter (λ m. v (Legal (g.role_name r) m)) (moves_in (g.role_name r) (heads d))
   pub next : (s : S) (joint : List M) (v : Derived → Bool) → g.IsState s → IsJoint g s joint → Fits (at_turn g s joint) d v

@@ -1,4 +1,4 @@
--- The laws of descriptions.
+-- Laws about the fits of a description.
 use Rattle.std.specs.Prelude.{ℕ, List}
 use Rattle.ground_rules.specs.Acyclic.{IsAcyclic}
 use Rattle.rule_sentences.specs.Descriptions.{Description}

@@ -1,4 +1,4 @@
--- The answers of a loaded game, computed from its tables in whatever form they are stored.
+-- The answers of a loaded game, computed from its tables. They do not depend on how the tables are stored.
 use Rattle.std.specs.Prelude.{ℕ, ◌≡◌, ◌<◌, Bool, List, [], map, slice_index_or, length}
 use Rattle.game_core.specs.Play.{Rules}
 use Rattle.ground_rules.specs.declared.tables.Mention.{Mention}
@@ -15,7 +15,7 @@ pub record GameTables : Type 0 where
   -- the texts of the terms of states and of moves; the index is the term's number
   pub states : List (List ℕ)
   pub moves : List (List ℕ)
-  -- the rules whose heads do not depend on moves, in the order of a ranking
+  -- the rules with heads that do not depend on moves, in the order of a ranking
   pub rest : List (Rule ℕ ℕ)
   -- the other rules, in the order of a ranking
   pub turn : List (Rule ℕ ℕ)

@@ -5,7 +5,7 @@ use Rattle.ground_rules.specs.declared.tables.GoalHead.{GoalHead}
 use Rattle.ground_rules.specs.declared.state.GroundMove.{GroundMove}
 use Rattle.numbered_rules.specs.Numbered.{bit}
 
--- the row of terms in which the terms of the true mentions are set
+-- the row of terms, with the terms of the true mentions set
 abbrev pub marked : List Bool → List Bool → List Mention → List Bool
 marked marks row [] = marks
 marked marks row (m ∷ ms) = marked (if bit row m.atom then slice_set marks m.term true else marks) row ms

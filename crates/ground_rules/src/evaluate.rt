@@ -58,7 +58,7 @@ fn all_hold(literals: &[Literal], row: &Row, state: &Row, joint: &[usize]) -> bo
     true
 }
 
-/// Evaluates each rule once, in order, and returns the row. A rule whose literals are all true sets its head.
+/// Evaluates each rule once, in order, and returns the row. A rule sets its head if all its literals are true.
 pub fn pass(rules: &[Rule], row: Row, state: &Row, joint: &[usize]) -> Row
     ensures { result ≡ row_after (numbered state.now joint.now) row (rules_of rules.now) }
 {

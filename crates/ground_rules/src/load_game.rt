@@ -25,7 +25,7 @@ fn load_folded(
 }
 
 /// Makes the game of a ground description: facts and rules of GDL without variables, in upper or lower case, within the
-/// usual limits. Sentences are numbered from 0. `LoadFault` documents the order in which errors are found.
+/// usual limits. Sentences are numbered from 0. `LoadFault` documents the order of the errors.
 pub fn load(alloc: Global, sentences: &[Expr]) -> Result<GroundGame, LoadFault>
     ensures { IsLoadAnswer (map folded (map expression sentences.now)) result }
 {

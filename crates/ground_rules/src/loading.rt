@@ -79,8 +79,8 @@ fn has_barred(heads: &[Derived], on_moves: &Row, on_given: &Row) -> bool
     false
 }
 
-/// The tables of names of a description with this number of sentences, or the first error in its roles or its size. The
-/// number of moves of each role is tested later.
+/// The tables of names of a description with this number of sentences, or the first error in its roles or its size. This
+/// does not check the number of moves of each role; the caller does so later.
 fn names_of(
     alloc: Global,
     limits: Limits,
@@ -141,7 +141,7 @@ fn has_barred_head(
     Ok(has_barred(names.heads.as_slice(), on_moves, &on_given))
 }
 
-/// Splits the rules into those whose heads do not depend on moves and the others. Each part is in the order of a ranking.
+/// Separates the rules with heads that do not depend on moves from the others. Each part is in the order of a ranking.
 fn split_rules(
     alloc: Global,
     names: &Names,

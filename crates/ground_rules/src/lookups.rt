@@ -11,7 +11,7 @@ use numbered_rules::Row;
 use std::alloc::{AllocError, Global};
 use std::borrow::CowSlice;
 
-/// Makes a row of `terms` values, in which the terms of the true mentions are set.
+/// Makes a row of `terms` values, and sets the terms of the true mentions.
 pub fn mark(alloc: Global, mentions: &[Mention], row: &Row, terms: usize) -> Result<Row, AllocError>
     ensures { IfOk result (λ marks. marks ≡ marked (unset terms) row.now mentions.now) }
 {
@@ -24,7 +24,7 @@ pub fn mark(alloc: Global, mentions: &[Mention], row: &Row, terms: usize) -> Res
     Ok(marks)
 }
 
-/// The moves whose heads are true.
+/// The moves with true heads.
 pub fn choose(alloc: Global, heads: &[Mention], row: &Row) -> Result<Vec<GroundMove>, AllocError>
     ensures { IfOk result (λ v. v.items ≡ chosen row.now heads.now) }
 {

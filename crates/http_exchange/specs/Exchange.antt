@@ -1,4 +1,4 @@
--- What a call writes to a stream and reads from it.
+-- The bytes that a call writes to a stream and reads from it.
 use Rattle.std.specs.Prelude.{◌≡◌, ◌⊎◌, ℕ, ◌<◌, ◌≤◌, Bool, true, List, length, take, Option}
 use Rattle.std.specs.Io.KnownBytes.{Consumes, Appends, IsAtEnd}
 use Rattle.game_core.specs.Counting.{Counting}
@@ -44,7 +44,7 @@ TakesNone kind remaining old new fault =
     (given : List ℕ) × (ended : Bool) × Gives (remaining old.stream) (remaining new.stream) given ended
     × ReadStops kind fault given ended old new
 
--- The bytes from the stream are refused with this error. `received` follows from what the bytes say about the head, so a status in
+-- The bytes from the stream are refused with this error. `received` follows from the head in these bytes, so a status in
 -- `received` is exactly the status of the head.
 abbrev pub TellsRefusal : {S : Type 0} → HttpKind → (S → Option (List ℕ)) → Counting S → Counting S → WireFault → Received → Type 0
 TellsRefusal kind remaining old new fault received =

@@ -1,4 +1,4 @@
--- The heads of messages, by the grammar of `httparse`, and what they say about the body.
+-- The heads of messages, by the grammar of `httparse`, and the place and length of the body that they give.
 use Rattle.std.specs.Prelude.{◌≡◌, ◌≢◌, ℕ, ◌<◌, ◌≤◌, ◌⊎◌, ◌==◌, nat_le, if◌then◌else◌, List, [], ◌∷◌, ◌++◌, length, take, map, codes, Option, Some, None}
 use Rattle.std.specs.Str.{bytes_eq}
 use Rattle.httparse.specs.Grammar.{ResponseHead, ReadsResponse, MayBecomeResponse, print_response, status_code, RequestHead, ReadsRequest, MayBecomeRequest, print_request}
@@ -88,7 +88,7 @@ HasManyFields kind bytes =
 abbrev pub IsBadIn : HttpKind → List ℕ → HeadPart → Type 0
 IsBadIn kind bytes part = (part ≡ FieldCount → HasManyFields kind bytes) × (part ≢ FieldCount → NeverHasHead kind bytes)
 
--- What follows a head of this size, given the length or the error of its fields. Without a length, a reply's body continues to the end of
+-- The result for a head of this size, given the length or the error of its fields. Without a length, a reply's body continues to the end of
 -- the stream.
 abbrev pub framed_by : HttpKind → ℕ → FrameFault → BodyLength → Head
 framed_by kind size fault wrong = Refused fault
@@ -111,8 +111,8 @@ framed kind parts = unless_refused parts.refusal (framed_by kind parts.size (len
 abbrev pub front : List ℕ → List ℕ
 front bytes = take max_head bytes
 
--- What the bytes so far say about the head. The three cases exclude one another, with one exception: if the bytes may become a head and
--- are hopeless, the last two cases may both apply.
+-- The result of parsing a head from the bytes so far. The three cases exclude one another, with one exception: if the bytes may become a
+-- head and are hopeless, the last two cases may both apply.
 abbrev pub HeadIs : HttpKind → List ℕ → Head → Type 0
 HeadIs kind bytes head =
     ((parts : Parts) × (rest : List ℕ) × Reads kind (front bytes) parts rest × (length parts.fields ≤ max_fields)

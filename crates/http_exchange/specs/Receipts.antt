@@ -15,7 +15,7 @@ abbrev pub body_receipt : Option ℕ → ℕ → Received
 body_receipt (Some n) come = receipts.Body (min n come) n
 body_receipt None come = receipts.OpenBody come
 
--- how much of a reply came, given what its bytes say about the head, and how many bytes there are
+-- how much of a reply came, given the result for its head and the number of its bytes
 abbrev pub receipt : Head → ℕ → Received
 receipt heads.Unfinished have = head_receipt have
 receipt (heads.Whole frame) have = body_receipt frame.length (have - frame.start)

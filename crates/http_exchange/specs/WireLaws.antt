@@ -1,4 +1,4 @@
--- Laws of the results for the bytes so far, and of the bodies that bytes carry.
+-- Laws about the results for the bytes read so far, and about the bodies that bytes carry.
 use Rattle.std.specs.Prelude.{◌≡◌, ◌≢◌, ◌≤◌, ◌⊎◌, ℕ, Bool, false, List, ◌++◌, length, slice_range}
 use Rattle.std.specs.List.{AllPass}
 use Rattle.httparse.specs.Grammar.{is_value_byte}

@@ -46,8 +46,8 @@ fn value_fault(value: &[u8]) -> FrameFault
     }
 }
 
-/// The digits of the length on which the fields agree, or `None` if no field has a length. The error says why the
-/// length is not usable.
+/// The digits of the one length that the fields give, or `None` if no field has a length. The error says why the fields
+/// give no usable length.
 pub(crate) fn said_length<'b>(
     buf: &'b [u8],
     headers: &[HeaderSpan],

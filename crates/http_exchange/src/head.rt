@@ -1,4 +1,4 @@
-//! The head of a message, and what it says about the body.
+//! Parses the head of a message, and finds where the body begins and how long it is.
 ghost use Rattle.std.specs.Prelude.{◌≡◌, ◌<◌, ◌^◌, All, map, length};
 ghost use Rattle.httparse.specs.Spans.{IsHeaderWithin, header_bytes};
 ghost use Rattle.http_exchange.specs.BodyLength.{body_length, length_fault};
@@ -60,7 +60,7 @@ impl HeadPart {
     }
 }
 
-/// What the bytes so far say about the head.
+/// The result of parsing a head from the bytes so far.
 #[derive(Clone, Copy)]
 pub enum Head {
     /// More bytes may complete a head.
@@ -97,7 +97,7 @@ fn max_body(kind: HttpKind) -> usize
     }
 }
 
-/// What the fields of a head of this size say about the body.
+/// The result for a head of this size, according to the length in its fields.
 fn framed(kind: HttpKind, size: usize, buf: &[u8], headers: &[HeaderSpan]) -> Head
     requires { All (IsHeaderWithin (length buf.now)) headers.now }
     ensures { result ≡ framed_by kind size (length_fault (map (header_bytes buf.now) headers.now)) (body_length (map (header_bytes buf.now) headers.now)) }
@@ -176,7 +176,7 @@ fn request_head(bytes: &[u8]) -> Head
     }
 }
 
-/// What the bytes so far say about the head.
+/// Parses a head from the bytes so far.
 fn head_at(kind: HttpKind, bytes: &[u8]) -> Head
     ensures { HeadIs kind bytes.now result }
 {
@@ -186,8 +186,8 @@ fn head_at(kind: HttpKind, bytes: &[u8]) -> Head
     }
 }
 
-/// What the bytes so far say about the head. `before` is the result for fewer bytes; if it is not `Unfinished`, the
-/// head is not parsed again.
+/// Parses a head from the bytes so far. `before` is the result for fewer bytes; if it is not `Unfinished`, this returns
+/// `before` and does not parse the head again.
 pub(crate) fn head_after(kind: HttpKind, before: Head, bytes: &[u8]) -> Head
     requires { IsKnown kind bytes.now before }
     ensures head { HeadIs kind bytes.now result }

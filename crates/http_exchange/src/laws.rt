@@ -1,4 +1,4 @@
-//! Laws of exchanges.
+//! Laws about the bodies that bytes carry, and about results for the bytes read so far.
 ghost use Rattle.http_exchange.specs.WireLaws.{LooksStay, FoundIsCarried, CarriedIsFound, CarriesOneAtMost, CarriedHasNoFault, ReplyIsCarried, RequestIsCarried};
 
 /// A result other than `More` stays the same when more bytes come, unless the bytes are undecided.

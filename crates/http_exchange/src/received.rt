@@ -94,7 +94,7 @@ impl fmt::Debug for Received {
     }
 }
 
-/// How much of a reply came, given what its bytes say about the head, and how many bytes there are.
+/// How much of a reply came, given the result for its head and the number of its bytes.
 pub(crate) fn received_of(head: Head, have: usize) -> Received
     requires { StartsWithin have head }
     ensures { result ≡ receipt head have }

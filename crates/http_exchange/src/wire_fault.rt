@@ -8,7 +8,7 @@ use std::error::Error;
 use std::fmt;
 use std::io::ErrorKind;
 
-/// Why an exchange returned no body, or a reply was not written. The stream is not usable afterwards: the bytes that
+/// Why an exchange returned no body, or why a reply was not written. The stream is not usable afterwards: the bytes that
 /// were read are lost, and the bytes that were written remain written.
 #[derive(Clone, Copy, PartialEq, Eq)]
 pub enum WireFault {

@@ -1,4 +1,4 @@
--- Laws of the definitions.
+-- Laws about the expressions that a text spells, canonical texts, errors, and lower case.
 use Rattle.std.specs.Prelude.{◌≡◌, ◌≢◌, ◌↔◌, ℕ, ◌<◌, ◌≤◌, ◌*◌, Bool, List, length, map, slice_index, ◌⊎◌, Some}
 use Rattle.game_core.specs.Bytes.{lower, line_feed, semicolon, space}
 use Rattle.game_core.specs.Expression.{Expression, Expressions, none, more, folded, AllHaveAtoms, IsProper}

@@ -1,5 +1,5 @@
--- The reader's steps as functions on plain values. `Reading` is defined with these functions. `Spelling` and `Faults` define which texts are
--- read and which are refused; `laws::reading_is_spelling` relates `Reading` to `Spelling`.
+-- The reader's steps as functions on plain values. `Reading` is defined with these functions. `Spelling` and `Faults` define the texts
+-- that the reader accepts and those that it refuses; `laws::reading_is_spelling` relates `Reading` to `Spelling`.
 use Rattle.std.specs.Prelude.{ℕ, suc, List, [], ◌∷◌, ◌++◌, length, Bool, true, false, not, ◌==◌, ◌&&◌, ◌||◌, nat_le, if◌then◌else◌, Result, Ok, Err}
 use Rattle.game_core.specs.Bytes.{is_white, is_atom_byte, line_feed, semicolon, left_parenthesis, right_parenthesis}
 use Rattle.game_core.specs.Expression.{Expression, atom, list, Expressions, none, more, max_depth}
@@ -11,7 +11,7 @@ pub record Open : Type 0 where
   pub before : Expressions
   pub at : ℕ
 
--- What has been read so far: the open lists, innermost first, the expressions at the innermost level, the bytes of an unfinished atom, and
+-- The state of the reader: the open lists, innermost first, the expressions at the innermost level, the bytes of an unfinished atom, and
 -- whether a comment is unfinished.
 pub record State : Type 0 where
   pub levels : List Open

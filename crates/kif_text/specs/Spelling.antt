@@ -1,4 +1,4 @@
--- Which texts spell which expressions: the prefix syntax of KIF and GDL.
+-- The expressions that a text spells: the prefix syntax of KIF and GDL.
 use Rattle.std.specs.Prelude.{◌≡◌, ◌≢◌, ℕ, ◌≤◌, List, [], ◌∷◌, ◌++◌, length, true, false}
 use Rattle.game_core.specs.Bytes.{is_white, is_atom_byte, line_feed, semicolon, left_parenthesis, right_parenthesis}
 use Rattle.game_core.specs.Expression.{Expression, atom, list, Expressions, none, more, IsAtom, depth, depth_all, max_depth}

@@ -8,7 +8,7 @@ abbrev pub expressions : List Expression → Expressions
 expressions [] = none
 expressions (x ∷ xs) = more x (expressions xs)
 
--- one level of an `Expr` whose members have been converted to expressions
+-- one level of an `Expr`; its members are already converted to expressions
 abbrev pub view_step : Expr-F Expression → Expression
 view_step (Expr-F.Atom text) = atom text
 view_step (Expr-F.List members) = list (expressions members.items)

@@ -1,14 +1,14 @@
-//! Why a text is refused.
+//! Why the reader refuses a text.
 ghost use Rattle.std.specs.Prelude.{◌≡◌};
 ghost use Rattle.kif_text.specs.declared.fault.KifFault.TheVariants.{Memory};
 
 use std::alloc::{AllocError, AllocFailed};
 use thiserror::Error;
 
-/// Why a text is refused. Offsets count the bytes of the text from 0.
+/// Why the reader refuses a text. Offsets count the bytes of the text from 0.
 ///
-/// `TooLong` comes before all other errors. Of all other errors, the reader reports the one with the lowest offset. `Unclosed` and
-/// `Nothing` are found at the end of the text, so they are reported only if there is no other error.
+/// `TooLong` takes precedence over all other errors. Among the others, the reader reports the one with the lowest offset. It
+/// finds `Unclosed` and `Nothing` at the end of the text, so it reports them only if there is no other error.
 #[derive(Clone, Copy, Debug, PartialEq, Eq, Error)]
 pub enum KifFault {
     /// The byte at this offset is outside comments, and is not white space, a parenthesis or an atom byte.
@@ -20,8 +20,8 @@ pub enum KifFault {
     /// The parenthesis at this offset would open a list inside 64 nested lists.
     #[error("the list at {0} is nested too deeply")]
     TooDeep(usize),
-    /// No parenthesis closes the list that was opened at this offset. If several lists are open at the end of the text, this
-    /// is the last one.
+    /// No parenthesis closes the list that begins at this offset. If several lists are open at the end of the text, this
+    /// is the innermost one.
     #[error("the list at {0} is not closed")]
     Unclosed(usize),
     /// One expression was expected, but the text has none.

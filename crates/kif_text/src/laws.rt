@@ -1,4 +1,4 @@
-//! Laws of the definitions.
+//! Laws about the expressions that a text spells, canonical texts, errors, and lower case.
 ghost use Rattle.kif_text.specs.Laws.{SpellsAtMostOne, SpelledHasAtoms, CanonicalSpellsAlone, CanonicalUnderDouble, SpelledOrFaulty, OneSpelledOrFaulty, OneFaultAtMost, BareHidesComments, FoldingCommutesWithPrinting, FoldingKeepsProper, FoldingTwiceIsOnce, ReadingIsSpelling, ReadingIsProper, ReadingUnderDouble, CanonicalReadsBack, FoldedTextReadsBack};
 
 /// A text spells at most one list of expressions.

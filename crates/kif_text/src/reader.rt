@@ -19,7 +19,7 @@ pub(crate) struct OpenList {
     at: usize,
 }
 
-/// What has been read so far: the open lists, the complete expressions at the innermost level, the bytes of an unfinished
+/// The state of the reader: the open lists, the complete expressions at the innermost level, the bytes of an unfinished
 /// atom, and whether a comment is unfinished.
 #[derive(Drop)]
 pub(crate) struct Reader {
@@ -90,7 +90,7 @@ impl Reader {
         Ok(())
     }
 
-    /// Reads a byte that is outside comments and not an atom byte.
+    /// Reads a byte outside comments that is not an atom byte.
     fn act(&mut self, alloc: Global, at: usize, byte: u8) -> Result<(), KifFault>
         ensures { Reaches result (state_of self.new) (act max_depth (state_of self.old) at byte) }
     {

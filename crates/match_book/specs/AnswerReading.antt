@@ -4,7 +4,7 @@ use Rattle.game_core.specs.Expression.{folded}
 use Rattle.game_core.specs.Canonical.{canonical}
 use Rattle.kif_text.specs.Reading.{reading}
 
--- the largest number of bytes of an answer that is read, including white space and comments
+-- the largest number of bytes of an answer that a match reads, including white space and comments
 abbrev pub max_answer : ℕ
 max_answer = 4096
 

@@ -1,4 +1,4 @@
--- What a match owes to each role.
+-- The messages that a match owes to its roles.
 use Rattle.std.specs.Prelude.{◌≡◌, ◌<◌, ℕ, ◌-◌, if◌then◌else◌, List, map, length, Option, IsSome, option_map, slice_get, Result, Ok, Err}
 use Rattle.game_core.specs.Play.{Rules}
 use Rattle.match_book.specs.MatchValue.{MatchValue}
@@ -22,7 +22,7 @@ owed_in Playing texts = Play texts
 owed_in Stopping texts = Stop texts
 owed_in (Aborting c) texts = Abort
 
--- what the match owes to the role now
+-- the message that the match owes to the role now, or the reason why it owes none
 abbrev pub due : {S M : Type 0} → Rules S M → MatchValue M → ℕ → Due
 due g m r = if is_over g m then Over else (if has_answered g m r then Hold (round g m) else Owe (round g m) (owed_in (stage g m) (last_move_texts g m.turns)))
 
@@ -38,7 +38,7 @@ OwesMoves (Owe round owed) = CarriesMoves owed
 OwesMoves (Hold round) = ⊥
 OwesMoves Over = ⊥
 
--- What the match owes to the role, if there is such a role. Only the texts of a joint move need memory.
+-- The message that the match owes to the role, if there is such a role. Only the texts of a joint move need memory.
 abbrev pub IsDueAnswer : {S M : Type 0} → Rules S M → MatchValue M → ℕ → Result Due OwedFault → Type 0
 IsDueAnswer g m r (Ok d) = (r < g.roles) × (d ≡ due g m r)
 IsDueAnswer g m r (Err NoRole) = ¬ (r < g.roles)

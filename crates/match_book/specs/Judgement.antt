@@ -23,7 +23,7 @@ illegal_prefix = codes "IL "
 abbrev pub retired_text : List ℕ
 retired_text = codes "RT"
 
--- the error that is recorded with the first legal move
+-- the error that a match records with the first legal move
 abbrev pub error_text : Substitution → List ℕ
 error_text TimeOut = time_out_text
 error_text ConnectionError = connection_error_text

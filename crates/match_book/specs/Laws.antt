@@ -1,4 +1,4 @@
--- Laws of the definitions, for a lawful game.
+-- Laws about lawful matches and the answers in them, for a lawful game.
 use Rattle.std.specs.Prelude.{◌≡◌, ◌≢◌, ◌↔◌, ◌⊎◌, ℕ, ◌+◌, ◌<◌, ◌≤◌, true, false, List, [], ◌∷◌, ◌++◌, length, Some, None, All, replicate, slice_get, slice_index_or, slice_set}
 use Rattle.game_core.specs.Canonical.{IsFoldedText}
 use Rattle.game_core.specs.Play.{Rules, AreLegal}
@@ -45,14 +45,14 @@ Names g Broken m = ⊥
 abbrev pub NoErrorMeansNamed : {S M : Type 0} → Rules S M → Type 0
 NoErrorMeansNamed {S} {M} g = (s : S) (role : ℕ) (answer : Answer) (j : Judgement M) → judgement g s role answer ≡ Some j → (j.error ≡ []) ↔ Names g answer j.taken
 
--- The role's part of the turn made of the open answers is a judgement, whose move and error are at the role's index.
+-- The open answers make a turn. The role's part of this turn is a judgement; its move and its error are at the role's index.
 pub record HasPart {S M : Type 0} (g : Rules S M) (m : MatchValue M) (r : ℕ) : Type 0 where
   pub judged : Judgement M
   pub is_part : part g m r ≡ Some judged
   pub move : slice_get (turn_of (parts g m)).moves r ≡ Some judged.taken
   pub error : slice_get (turn_of (parts g m)).errors r ≡ Some judged.error
 
--- An answer that is taken in play is judged. The judgement stays open, or is recorded with the others.
+-- The match judges each answer that it takes in play. The judgement stays open, or the match records it with the others.
 pub record IsPlayed {S M : Type 0} (g : Rules S M) (m n : MatchValue M) (role : ℕ) (answer : Answer) : Type 0 where
   pub judged : Judgement M
   pub is_judgement : judgement g (state_after g m.turns) role answer ≡ Some judged

@@ -33,7 +33,7 @@ has_no_goal g s r = is_none (g.goal s r)
 abbrev pub has_no_move : {S M : Type 0} → Rules S M → S → ℕ → Bool
 has_no_move g s r = length (g.legal s r) == 0
 
--- the settling rule in the state s after t turns, given whether these have retired all roles
+-- the settling rule in the state s after t turns, given whether these turns have retired all roles
 unfoldable pub settled : {S M : Type 0} → Rules S M → ℕ → Bool → S → Stage
 settled g t all_retired s = if g.terminal s then after_the_end (lowest_role g.roles (has_no_goal g s))
     else (if nat_le max_turns t then Aborting TooLong else before_the_end (lowest_role g.roles (has_no_move g s)) all_retired)

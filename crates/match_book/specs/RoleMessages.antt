@@ -12,7 +12,7 @@ use Rattle.match_book.specs.declared.phase.Stage.TheVariants.{Starting, Playing,
 use Rattle.desk_calls.specs.declared.due.Owed.{Owed}
 use Rattle.desk_calls.specs.declared.due.Owed.TheVariants.{Start, Play}
 
--- the PLAY after these turns, with the last joint move; none if they retire the role
+-- the PLAY after these turns, with the last joint move; no message if these turns retire the role
 abbrev pub play_after : {S M : Type 0} → Rules S M → ℕ → ℕ → List (Turn M) → List Owed
 play_after g strikes role turns = if retired_by strikes turns role then [] else Play (last_move_texts g turns) ∷ []
 

@@ -10,7 +10,7 @@ abbrev pub all_struck : {M : Type 0} → ℕ → List (Turn M) → Bool
 all_struck role [] = true
 all_struck role (t ∷ ts) = if is_struck role t then all_struck role ts else false
 
--- the number of turns in a row, up to the last turn, in which the role's move was replaced
+-- how many of the role's moves in a row were replaced, up to the last turn
 abbrev pub in_a_row : {M : Type 0} → ℕ → List (Turn M) → ℕ
 in_a_row role [] = 0
 in_a_row role (t ∷ ts) = if all_struck role (t ∷ ts) then suc (length ts) else in_a_row role ts

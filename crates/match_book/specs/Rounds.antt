@@ -1,4 +1,4 @@
--- Rounds in which every role answers.
+-- Rounds with an answer of every role.
 use Rattle.std.specs.Prelude.{◌≡◌, ◌⊎◌, ℕ, zero, suc}
 use Rattle.game_core.specs.Play.{Rules}
 use Rattle.match_book.specs.MatchValue.{MatchValue}

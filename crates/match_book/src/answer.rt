@@ -26,7 +26,7 @@ pub enum AnswerRefusal {
     NoRole,
     /// The match is finished or aborted.
     Over,
-    /// The answer is not for the present round, which has this number.
+    /// The answer is for another round. The present round has this number.
     Stale(u64),
     /// The role has already answered this round.
     Twice,
@@ -39,7 +39,7 @@ pub enum AnswerFault {
     NoRole,
     /// The match is finished or aborted.
     Over,
-    /// The answer is not for the present round, which has this number.
+    /// The answer is for another round. The present round has this number.
     Stale(u64),
     /// The role has already answered this round.
     Twice,

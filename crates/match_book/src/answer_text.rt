@@ -6,7 +6,7 @@ use game_core::Text;
 use kif_text::{KifFault, fold, print, read_one};
 use std::alloc::{AllocError, Global};
 
-/// The largest number of bytes of an answer. A longer answer is not read.
+/// The largest number of bytes of an answer. A match does not read a longer answer.
 pub const MAX_ANSWER: usize = 4096;
 
 /// The largest number of bytes of a reading: printing adds at most one space for each byte.

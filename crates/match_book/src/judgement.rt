@@ -36,12 +36,12 @@ pub enum Substitution {
     Unreadable,
     /// The answer spells this text, but no legal move has this text.
     Illegal(Text),
-    /// The role is retired, so it was not asked.
+    /// The role is retired, so the match did not ask it.
     Retired,
 }
 
 impl Substitution {
-    /// The error that is recorded with the move.
+    /// The error that the match records with the move.
     fn error(&self, alloc: Global) -> Result<Text, AllocError>
         ensures { IfOk result (λ t. t ≡ error_text self.now) }
     {

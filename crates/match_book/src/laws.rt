@@ -1,4 +1,4 @@
-//! Laws of the definitions, for every game.
+//! Laws about lawful matches and the answers in them, for every game.
 //!
 //! A law without arguments is about every game of a type: name the type when you call it.
 ghost use Rattle.match_book.specs.Laws.{NewMatchIsLawful, AnswersKeepLawful, AbortKeepsLawful, RecordedMovesAreLegal, NoErrorMeansNamed, AnswersInPlay, AnswersOutOfPlay, TakenForTheRound, OwedAnswersAreTaken, TurnsLeadToStates, TurnsHaveMoves, OneMoreTurn, StrikesBegin, StrikesOfOneMore, FewStrikes, StartingMeans, PlayingMeans, StoppingMeans, BegunRoundsAreOpen, RoundsEnd, NoneIsAnswered, OwedIsAnswered, OthersAreUntouched, AllAreAnswered, ReadingsAreFolded};
@@ -35,8 +35,8 @@ pub fn no_error_means_named<G: Game>()
     ensures { (game : G) → NoErrorMeansNamed (G.rules game) }
 {}
 
-/// An answer that is taken in play stays open, or is recorded with the others as one turn. The turn has the part of each
-/// role at the role's index.
+/// An answer that a match takes in play stays open, or the match records it with the others as one turn. The turn has the
+/// part of each role at the role's index.
 pub fn answers_in_play<G: Game>()
     ensures { (game : G) → AnswersInPlay (G.rules game) }
 {
@@ -77,7 +77,7 @@ pub fn strikes_follow_turns<G: Game>()
     ensures few { FewStrikes G.Move }
 {}
 
-/// The conditions on marks, state and turns under which a match starts, plays or stops.
+/// A match is starting, playing or stopping if and only if its marks, state and turns meet these conditions.
 pub fn stages_are_settled<G: Game>()
     ensures starting { (game : G) → StartingMeans (G.rules game) }
     ensures playing { (game : G) → PlayingMeans (G.rules game) }

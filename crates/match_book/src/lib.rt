@@ -1,4 +1,4 @@
-//! A match of any game: what it owes to each role, how it judges an answer, when it replaces a move, and when it stops or
+//! A match of any game. It decides which message it owes to each role, judges answers, replaces moves, and stops or
 //! aborts.
 //!
 //! Only answers and aborts change a match. A match sends nothing and has no clock.

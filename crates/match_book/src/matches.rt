@@ -272,7 +272,7 @@ impl<G: Game> Match<G> {
         }
     }
 
-    /// What the match owes to a role now.
+    /// The message that the match owes to a role now, or the reason why it owes none.
     pub fn owed(&self, alloc: Global, game: &G, role: usize) -> Result<Due, OwedFault>
         requires game { self.now.game ≡ game.now }
         ensures { IsDueAnswer (G.rules self.now.game) self.now.value role result }
@@ -541,7 +541,7 @@ impl<G: Game> Match<G> {
         Ok(())
     }
 
-    /// Aborts a match that is neither stopping nor aborting. Its open answers are dropped.
+    /// Aborts a match that is neither stopping nor aborting. Drops its open answers.
     pub fn abort(&mut self) -> Result<(), AbortFault>
         ensures game { self.new.game ≡ self.old.game }
         ensures ok { OnOk result (is_live (stage (G.rules self.old.game) self.old.value) ≡ true) }

@@ -19,7 +19,7 @@ pub enum Cause {
     AllRetired,
 }
 
-/// What a match does, regardless of whether every role has answered STOP or ABORT.
+/// The stage of a match. It does not depend on whether every role has answered STOP or ABORT.
 #[derive(Clone, Copy)]
 pub enum Stage {
     Starting,

@@ -12,7 +12,7 @@ use std::alloc::{AllocError, Global};
 /// A role's strikes: its replaced moves in a row, and whether the role is retired.
 #[derive(Clone, Copy)]
 pub struct RoleStrikes {
-    /// The number of turns in a row, up to the last turn, in which the role's move was replaced.
+    /// How many of the role's moves in a row were replaced, up to the last turn.
     pub in_a_row: usize,
     pub is_retired: bool,
 }

@@ -1,4 +1,4 @@
-//! The settling rule: what a match does after START and after each turn.
+//! The settling rule. After START and after each turn, it decides whether a match continues, stops or aborts.
 ghost use Rattle.std.specs.Prelude.{◌≡◌, ◌<◌, ◌==◌, ℕ, IfOk, None};
 ghost use Rattle.match_book.specs.Roles.{lowest_role, at_role};
 ghost use Rattle.match_book.specs.declared.phase.Stage.TheVariants.{Playing, Aborting};
@@ -13,8 +13,8 @@ use std::alloc::{AllocError, Global};
 /// The largest number of turns of a match.
 pub const MAX_TURNS: usize = 10_000;
 
-/// What a match does in a state. If it continues, `legal` has each role's legal moves. If it stops, `goals` has each role's
-/// goal.
+/// The stage of a match in a state. If the match continues, `legal` has each role's legal moves. If it stops, `goals` has
+/// each role's goal.
 #[derive(Drop)]
 pub struct Settlement<M> {
     pub stage: Stage,
@@ -43,7 +43,7 @@ fn goals_of<G: Game>(
     Ok((None, goals))
 }
 
-/// What a match does in a state after `turns` turns, if `retired` roles are retired.
+/// Applies the settling rule to a state after `turns` turns, if `retired` roles are retired.
 #[tactic(auto, unfolding(crate::specs::Phase::settled))]
 pub fn settle<G: Game>(
     alloc: Global,

@@ -63,7 +63,7 @@ AreTaken true g turns turn role answers = answers ≡ []
 AreTaken false g turns turn role answers = IsAnswered g turns turn role answers
 
 -- For each recorded turn of the match and each role that the earlier turns do not retire, the history took exactly one answer for the turn's
--- round, and the turn has the judgement of this answer. From a role that the earlier turns retire, the history took no answer.
+-- round, and the turn has the judgement of this answer. The history took no answer from a role that the earlier turns retire.
 pub record IsAccounted {G S M : Type 0} (rules : G → Rules S M) (games : List G) (history : List (Entry Call Reply)) (m : DeskMatch M) : Type 0 where
   pub game : G
   pub is_game : slice_get games m.game ≡ Some game

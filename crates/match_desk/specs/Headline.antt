@@ -32,5 +32,5 @@ pub record HasHeadline {G S M : Type 0} (rules : G → Rules S M) (lines : ℕ) 
   -- each match's recorded joint moves are legal turns of its game
   pub legal : ArePlayedLegally rules d
   -- For each recorded move of a role that the earlier turns do not retire, the history took exactly one answer of the role, and the move and
-  -- its error are the judgement of this answer. From a role that the earlier turns retire, the history took no answer.
+  -- its error are the judgement of this answer. The history took no answer from a role that the earlier turns retire.
   pub accounted : AreAccounted rules d history

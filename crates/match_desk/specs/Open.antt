@@ -1,4 +1,4 @@
--- The conditions under which a match is opened.
+-- The conditions for opening a match.
 use Rattle.std.specs.Prelude.{ℕ, Bool, false, ◌==◌, nat_lt, ◌&&◌, List, [], ◌∷◌, ◌++◌, length, if◌then◌else◌, Option, Some, None, is_none, is_some, option_map, unwrap_or, slice_get}
 use Rattle.std.specs.List.{list_all}
 use Rattle.game_core.specs.Play.{Rules}
@@ -30,7 +30,7 @@ open_tests rules d game setup =
     ∷ ((nat_lt (length d.matches) max_matches, DeskFull)
     ∷ [])))))))
 
--- the first reason why a match cannot be opened, or None if it can
+-- the first reason why the manager cannot open a match, or None if it can
 abbrev pub open_refusal : {G S M : Type 0} → (G → Rules S M) → ManagerValue G M → ℕ → Setup → Option Refusal
 open_refusal rules d game setup = first_refusal (open_tests rules d game setup)
 

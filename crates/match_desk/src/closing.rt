@@ -21,8 +21,8 @@ use std::sync::ledger::Ledger;
 /// state after these moves.
 ///
 /// For each recorded move of a role that was not yet retired, the history took exactly one answer of the role, and the move
-/// and its error are the judgement of this answer. The error is empty if and only if the answer named the move. From a role
-/// that was already retired, the history took no answer.
+/// and its error are the judgement of this answer. The error is empty if and only if the answer named the move. The
+/// history took no answer from a role that was already retired.
 pub fn close_desk<G: Game, L: Ledger>(
     desk: LockDesk<Manager<G>, L>,
     lines: Vec<LockLine<L>>,

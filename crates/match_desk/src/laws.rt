@@ -1,4 +1,4 @@
-//! Laws of the definitions.
+//! Laws about lawful managers, and about the answers behind recorded moves.
 ghost use Rattle.call_history.specs.History.{run, IsLegalHistory};
 ghost use Rattle.std.specs.Prelude.{◌≡◌, []};
 ghost use Rattle.match_desk.specs.ManagerValue.{IsLawfulManager};

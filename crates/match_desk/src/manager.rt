@@ -24,7 +24,7 @@ use std::marker::Model;
 /// The largest number of matches of a desk.
 const MAX_MATCHES: usize = 1_024;
 
-/// The number of matches for which memory is allocated at the start.
+/// A new manager allocates memory for this many matches.
 const FIRST_ROOM: usize = 8;
 
 /// A fixed list of games, and matches of these games in the order of opening. No match is ever removed.
@@ -111,7 +111,7 @@ impl<G: Game> Manager<G> {
         self.matches.contains_key(id)
     }
 
-    /// The first reason why a match cannot be opened, or `None` if it can.
+    /// The first reason why the manager cannot open a match, or `None` if it can.
     fn open_refusal(&self, asked: &AskedSetup<'_>) -> Option<Refusal>
         ensures { result ≡ open_refusal G.rules self.now asked.now.game (asked_setup asked.now) }
     {
@@ -264,7 +264,7 @@ impl<G: Game> Object for Manager<G> {
 
     fn answer(&self, alloc: Global, call: &Call) -> Result<Reply, AllocError>
         ensures reply { IfOk result (λ r. r ≡ reply G.rules self.now call.now) }
-        // A refused call needs no memory. Of the accepted calls, only those whose reply has the texts of moves need memory.
+        // A refused call needs no memory. An accepted call needs memory only if its reply has the texts of moves.
         ensures accepted { OnErr result (is_refused (reply G.rules self.now call.now) ≡ false) }
         ensures memory { OnErr result (CarriesTexts (reply G.rules self.now call.now)) }
     {
@@ -291,8 +291,8 @@ impl<G: Game> Object for Manager<G> {
     fn apply(&mut self, alloc: Global, call: &Call) -> Result<(), AllocError>
         ensures ok { OnOk result (self.new ≡ after G.rules self.old call.now) }
         ensures err { OnErr result (self.new ≡ self.old) }
-        // A refused call needs no memory. Of the accepted calls, only those that open a match or add an answer to a turn
-        // need memory.
+        // A refused call needs no memory. An accepted call needs memory only if it opens a match or adds an answer to a
+        // turn.
         ensures accepted { OnErr result (is_refused (reply G.rules self.old call.now) ≡ false) }
         ensures memory { OnErr result (WantsMemory G.rules self.old call.now) }
     {

@@ -10,7 +10,7 @@ is_visible byte = nat_le 32 byte && nat_le byte 126
 abbrev pub shown_byte : ℕ → ℕ
 shown_byte byte = if is_visible byte then byte else 63
 
--- the same, except that a line feed stays, since a report may have several text lines
+-- the byte if it is visible or a line feed, since a report may have several text lines, and otherwise ?
 abbrev pub reported_byte : ℕ → ℕ
 reported_byte byte = if byte == line_feed then byte else shown_byte byte
 
@@ -18,7 +18,7 @@ reported_byte byte = if byte == line_feed then byte else shown_byte byte
 abbrev pub max_shown : ℕ
 max_shown = 200
 
--- two dots if there are more bytes
+-- two dots if the text has more bytes than are shown
 abbrev pub further : List ℕ → List ℕ
 further text = if nat_lt max_shown (length text) then codes ".." else []
 

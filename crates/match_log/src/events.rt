@@ -1,4 +1,4 @@
-//! The text lines of the log. Each is a JSON object.
+//! The text lines of the log. Each text line is a JSON object.
 ghost use Rattle.std.specs.Prelude.{◌≡◌, ◌<◌, ◌++◌, flat_map};
 ghost use Rattle.std.specs.Fmt.{WritesOnOk};
 ghost use Rattle.match_log.specs.LogLines.{escaped, hex_digit, json_string, message_line, object_line, written_member};

@@ -26,7 +26,7 @@ pub struct Logging<'a, H, S> {
     /// Whether only one player of each match is logged. If so, that player counts the match, whatever its role;
     /// otherwise the player of the first role counts it.
     pub is_alone: bool,
-    /// Whether to report on standard error each player for which all messages failed.
+    /// Whether to report on standard error each player to whom all messages failed.
     pub names_absent: bool,
 }
 

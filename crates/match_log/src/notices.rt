@@ -109,18 +109,23 @@ impl LogState {
     /// Writes the waiting text lines to the log, and then how many were left out.
     fn write<W: Write>(&mut self, alloc: Global, waiting: &mut Waiting, stream: &mut W) {
         self.left_out = self.left_out.saturating_add(waiting.left_out);
+        if self.missing > 0 {
+            self.missing = self.missing.saturating_add(lines_in(&waiting.log));
+            return;
+        }
+        let mut reported = 0;
         if self.left_out > 0 {
             if let Ok(line) = Event::LeftOut(self.left_out).to_string(alloc) {
                 if waiting.log.extend_from_slice(line.as_bytes()).is_ok() {
-                    self.left_out = 0;
+                    reported = mem::take(&mut self.left_out);
                 }
             }
         }
-        self.missing = if self.missing > 0 {
-            self.missing.saturating_add(lines_in(&waiting.log))
-        } else {
-            unwritten(stream, &waiting.log)
-        };
+        self.missing = unwritten(stream, &waiting.log);
+        if self.missing > 0 && reported > 0 {
+            // The last text line is not an object. The objects that it reports are missing instead.
+            self.missing = (self.missing - 1).saturating_add(reported);
+        }
     }
 
     /// Reports what is missing from the log. Ignores errors of the stream.

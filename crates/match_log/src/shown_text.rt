@@ -37,7 +37,7 @@ fn shown_byte(byte: u8) -> u8
     }
 }
 
-/// The byte that a report has for a byte. A report may have several text lines, so a line feed stays.
+/// The byte that a report shows for a byte. A report may have several text lines, so a line feed stays.
 pub fn reported_byte(byte: u8) -> u8
     ensures { result ≡ reported_byte byte }
 {

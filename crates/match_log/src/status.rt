@@ -22,7 +22,7 @@ const CLEAR: &str = "\r\x1b[K";
 /// The progress of the matches, measured by the messages of their players.
 #[derive(Drop)]
 pub struct Progress {
-    /// The number of matches to play, or 0 while it is not known.
+    /// The number of matches to play, or 0 while the number is not known.
     planned: AtomicU64,
     begun: AtomicU64,
     over: AtomicU64,
@@ -140,8 +140,8 @@ impl<E: Write> Write for StatusStream<E> {
     }
 }
 
-/// Names the reference through which an output writes. The code that makes the output chooses this type, so contracts
-/// know to which stream generic code writes.
+/// Names the reference that an output writes through. The code that makes the output chooses this type, so contracts
+/// know which stream generic code writes to.
 pub trait WriterBrand {
     ghost name: { ℕ };
 }

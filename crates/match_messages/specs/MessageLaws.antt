@@ -1,4 +1,4 @@
--- Laws of messages.
+-- Laws about reading the text of a message.
 use Rattle.std.specs.Prelude.{◌≡◌, ℕ, ◌≤◌, true, List, [], ◌∷◌, length, Option, Some, None, slice_index_or, Ok}
 use Rattle.game_core.specs.Expression.{Expressions, none, more, HasAtoms, AllHaveAtoms, depth, max_depth}
 use Rattle.game_core.specs.Canonical.{canonical}
@@ -26,7 +26,7 @@ IsLawfulMessage (play id moves) = (is_name id ≡ true) × AreMoves moves
 IsLawfulMessage (stop id moves) = (is_name id ≡ true) × AreMoves moves
 IsLawfulMessage (abort id) = is_name id ≡ true
 
--- a lawful message whose text is within the limits of length and depth
+-- a lawful message with a text within the limits of length and depth
 pub record IsSayable (m : MessageValue) : Type 0 where
   pub lawful : IsLawfulMessage m
   pub short : length (canonical (message_form m)) ≤ max_length

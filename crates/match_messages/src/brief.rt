@@ -1,4 +1,4 @@
-//! The data from which the messages of a match are made.
+//! The data that the messages of a match contain.
 ghost use Rattle.std.specs.Prelude.{◌≡◌};
 ghost use Rattle.match_messages.specs.BriefValue.{brief_value};
 

@@ -12,7 +12,7 @@ pub enum Info {
     Available,
     Ready,
     Busy,
-    /// The answer does not say the status.
+    /// The answer gives no status.
     Unknown,
 }
 
@@ -92,8 +92,8 @@ fn info_in(expr: &Expr) -> Info
     }
 }
 
-/// Reads an answer to INFO, in upper or lower case: the atom `available`, `ready` or `busy`, or a list whose first member of
-/// the form `(status S)` gives the status S. Any other text gives `Unknown`.
+/// Reads an answer to INFO, in upper or lower case: the atom `available`, `ready` or `busy`, or a list. In a list, the first
+/// member of the form `(status S)` gives the status S. Any other text gives `Unknown`.
 pub fn read_info(alloc: Global, text: &[u8]) -> Result<Info, AllocError>
     ensures { IfOk result (λ i. i ≡ info_reading text.now) }
 {

@@ -1,4 +1,4 @@
-//! Laws of messages.
+//! Laws about reading the text of a message.
 ghost use Rattle.match_messages.specs.MessageLaws.{MessagesReadBack, OwedMessagesReadBack};
 
 use desk_calls::laws::names_are_atoms;
@@ -15,8 +15,8 @@ pub fn messages_read_back()
     canonical_reads_back();
 }
 
-/// Reading the text of an owed message gives what the message says to the role, with its role, rules and moves in lower
-/// case. The role's name and the texts of the moves must be canonical, and the message's text must be within the limits.
+/// Reading the text of an owed message gives the content of the message for the role, with its role, rules and moves in
+/// lower case. The role's name and the texts of the moves must be canonical, and the message's text must be within the limits.
 pub fn owed_messages_read_back()
     ensures { OwedMessagesReadBack }
 {

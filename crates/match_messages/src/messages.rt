@@ -8,7 +8,7 @@ use std::alloc::{AllocError, AllocFailed};
 use std::error::Error;
 use std::fmt;
 
-/// The content of a message. The role, the rules and the moves are in lower case; the id is as it was sent. The moves are
+/// The content of a message. The role, the rules and the moves are in lower case; the id is unchanged. The moves are
 /// those of the last turn, in the order of the roles, or `None` before the first turn.
 #[derive(Drop)]
 pub enum Message {

@@ -12,7 +12,7 @@ use Rattle.match_plans.specs.declared.addresses.PlayerAddress.{PlayerAddress}
 abbrev pub addressed_name : List ℕ → List ℕ
 addressed_name word = before_first (λ b. b == 64) word
 
--- the parts before and after the last c of a text, given those of the text without its first byte
+-- the parts before and after the last c of a text, given the parts of the text without its first byte
 abbrev pub cut_here : ℕ → ℕ → List ℕ → Option (List ℕ × List ℕ) → Option (List ℕ × List ℕ)
 cut_here c b more None = if b == c then Some ([], more) else None
 cut_here c b more (Some cut) = Some (b ∷ cut.0, cut.1)
@@ -35,7 +35,7 @@ IsIpv6 text = (address : Ipv6Addr) × IsIpv6Text text address
 abbrev pub IsHostOf : List ℕ → List ℕ → Type 0
 IsHostOf text host = ((text ≡ bracketed host) × IsIpv6 host) ⊎ ((host ≡ text) × ((inner : List ℕ) → text ≡ bracketed inner → ¬ (IsIpv6 inner)))
 
--- The address is that of the word NAME@HOST:PORT, and its name is lawful.
+-- The word NAME@HOST:PORT gives the address, and the name in it is lawful.
 pub record IsAddress (word : List ℕ) (address : PlayerAddress) : Type 0 where
   pub host : List ℕ
   pub port : List ℕ

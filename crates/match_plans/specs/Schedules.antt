@@ -58,7 +58,7 @@ word_fault (id ∷ start ∷ play ∷ player ∷ players) =
     else player_fault 4 (player ∷ players)))
 word_fault words = Some TooFewWords
 
--- the plan has the values in these words: the id, the seconds for START, the seconds for all other messages, and the players
+-- the plan contains the values in these words: the id, the seconds for START, the seconds for all other messages, and the players
 abbrev pub IsPlanned : ℕ → List (List ℕ) → MatchPlan → Type 0
 IsPlanned strikes (id ∷ start ∷ play ∷ players) plan =
     (plan.id.now ≡ id) × (clock_of start ≡ Some plan.start) × (clock_of play ≡ Some plan.play) × (plan.strikes ≡ strikes)
@@ -93,7 +93,7 @@ IsFaultOf roles strikes before words fault =
     × ((word_fault words ≡ Some fault)
     ⊎ ((plan : MatchPlan) × (word_fault words ≡ None) × IsPlanned strikes words plan × HasFault roles before plan fault))
 
--- The text line with this index is the first bad one, with this error. Each text line before it has a match or is ignored.
+-- The text line with this index is the first bad one, with this error. Each text line before it contains a match or is ignored.
 pub record IsFirstBad (roles strikes : ℕ) (lines : List (List ℕ)) (at : ℕ) (fault : LineFault) : Type 0 where
   pub within : at < length lines
   pub before : List MatchPlan

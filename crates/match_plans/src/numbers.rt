@@ -4,7 +4,7 @@ ghost use Rattle.match_plans.specs.Numbers.{at_least, decimal_of};
 
 use game_core::numeral::are_digits;
 
-/// Reads a number in decimal digits. Leading zeros are accepted. Returns `None` if the text is empty, has another byte, or
+/// Reads a number in decimal digits. Leading zeros are accepted. Returns `None` if the text is empty, contains another byte, or
 /// exceeds `limit`.
 pub fn decimal(text: &str, limit: u64) -> Option<u64>
     ensures within { IfSome result (λ number. number ≤ limit) }

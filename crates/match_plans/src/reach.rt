@@ -18,7 +18,7 @@ pub struct RolePlace<'a> {
 
 /// Makes players.
 pub trait Reach {
-    /// The type of the players that it makes.
+    /// The type of the players that a `Reach` makes.
     type Player;
 
     ghost use Rattle.match_plans.specs.declared.addresses.PlayerAddress.{PlayerAddress};

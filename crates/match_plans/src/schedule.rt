@@ -17,7 +17,7 @@ pub const MAX_SCHEDULED: usize = 65_536;
 /// The largest number of matches of a schedule that are played at once.
 pub const MAX_AT_ONCE: usize = 1_024;
 
-/// The error of a match after the matches with these ids, in a game of `roles` roles. If there is none, adds the id of the match.
+/// The error of a match after the matches with these ids, in a game of `roles` roles. If there is no error, adds the id of the match.
 fn misplaced<'a>(
     ids: &mut IndexSet<&'a [u8]>,
     plan: &MatchPlan<'a>,

@@ -3,7 +3,7 @@
 /// The order of the records in the output.
 #[derive(Clone, Copy)]
 pub enum RecordOrder {
-    /// The order of the schedule. A record is written once it and all records before it are complete.
+    /// The order of the schedule. A record is written when it and all earlier records are complete.
     OfSchedule,
     /// Each record is written when its match ends.
     OfEnds,

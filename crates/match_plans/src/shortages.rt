@@ -1,4 +1,4 @@
-//! Resources that the referee itself may lack. This is not the fault of a player.
+//! Resources that the referee itself may lack, for example memory or ports. A player is not penalised for this.
 ghost use Rattle.std.specs.Prelude.{ℕ, IfNone};
 
 use thiserror::Error;
@@ -24,14 +24,14 @@ pub enum Shortage {
     /// forbids the connection.
     #[error("no network")]
     Network,
-    /// The referee was not running for some time while it sent the request, and the player closed the connection
-    /// meanwhile.
+    /// The referee was not running for some time while it sent the request, and in that time the player
+    /// closed the connection.
     #[error("no processor")]
     Processor,
 }
 
-/// Reports which resource the referee lacked in a match. If it lacked one, the match has no record, because an answer
-/// in it may not be the player's.
+/// Reports which resource the referee lacked in a match. If it lacked one, the match has no record, because a wrong or
+/// missing answer may not be the player's fault.
 pub trait ReportsShortages {
     /// The reporter has said that the referee lacked no resource in the match with this index.
     ghost is_clear: { Self → ℕ → Type 0 };

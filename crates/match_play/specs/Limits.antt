@@ -1,4 +1,4 @@
--- The limit of a role's `Next` calls.
+-- The limit on a role's `Next` calls.
 use Rattle.std.specs.Prelude.{ℕ}
 
 abbrev pub max_tries : ℕ

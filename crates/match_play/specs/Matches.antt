@@ -35,7 +35,7 @@ referee_fault Unclosed = NotEnded
 referee_fault Full = NotEnded
 referee_fault RefereeMemory = Memory
 
--- the reason of a refusal; None for any other error
+-- the reason why the desk refused the match; None for any other error
 abbrev pub reason_of : MatchFault → Option Refusal
 reason_of (Refused reason) = Some reason
 reason_of NotEnded = None

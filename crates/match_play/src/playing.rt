@@ -30,7 +30,7 @@ use std::sync::Wait;
 use std::thread::Threads;
 use thiserror::Error;
 
-/// The limit of a role's `Next` calls. No match needs so many, whatever its clocks (`docs/COMMANDS.md`).
+/// The limit on a role's `Next` calls. No match needs so many, whatever its clocks (`docs/COMMANDS.md`).
 const MAX_TRIES: u64 = 1_000_000_000;
 
 /// Why a match has no record.
@@ -183,8 +183,8 @@ fn ended_record<G: Game>(alloc: Global, refereed: &Refereed<G>) -> Result<Text, 
     Ok(record)
 }
 
-/// The output of a match that was played to its end: its record as a line, followed by its call log if that is asked
-/// for.
+/// The output of a match that was played to its end: its record as a line, followed by its call log if the caller asks
+/// for it.
 #[derive(Drop)]
 pub struct EndedMatch {
     pub text: Text,
@@ -225,7 +225,7 @@ where
     // If this returns a desk although a role's worker ran out of memory, the match is over.
     ensures whole { IfOk result (λ r. HasNoEndedMatch ⟦<PackedGame as Game>⟧.rules r.closed.object → All (λ end. end ≢ Err AttendFault.Memory) r.ends.items) }
 
-    // If the desk refuses the match, the error has the desk's reason or is out of memory. No other error is a refusal.
+    // If the desk refuses the match, the error either gives the desk's reason or is out of memory. No other error is a refusal.
     ensures opens { OnOk result (packed_refusal game.entry.game.now prepared.setup ≡ None) }
     ensures refused { IfErr result (λ fault. fault ≢ MatchFault.Memory → reason_of fault ≡ packed_refusal game.entry.game.now prepared.setup) }
 {
@@ -300,7 +300,7 @@ where
     ensures clear { IfOk result (λ told. S.is_clear reach.now prepared.place) }
     ensures told { IfOk result (λ told. IsEndedWith S.Player.handed game.entry.game.now game.entry.rules.now max_tries prepared.setup prepared.players.items (λ held. T.is_told reader.now held told)) }
 
-    // If the desk refuses the match, the error has the desk's reason or is out of memory. No other error is a refusal.
+    // If the desk refuses the match, the error either gives the desk's reason or is out of memory. No other error is a refusal.
     ensures opens { OnOk result (packed_refusal game.entry.game.now prepared.setup ≡ None) }
     ensures refused { IfErr result (λ fault. fault ≢ MatchFault.Memory → reason_of fault ≡ packed_refusal game.entry.game.now prepared.setup) }
 {
@@ -340,7 +340,7 @@ where
     ensures clear { IfOk result (λ e. S.is_clear reach.now prepared.place) }
     ensures played { IfOk result (λ e. (line : List ℕ) × (history : List (Entry DeskCall DeskReply)) × IsPlayedMatch S.Player.handed game.entry.game.now game.entry.rules.now max_tries prepared.setup prepared.players.items line history × (e.text ≡ match_text line history has_account)) }
 
-    // If the desk refuses the match, the error has the desk's reason or is out of memory. No other error is a refusal.
+    // If the desk refuses the match, the error either gives the desk's reason or is out of memory. No other error is a refusal.
     ensures opens { OnOk result (packed_refusal game.entry.game.now prepared.setup ≡ None) }
     ensures refused { IfErr result (λ fault. fault ≢ MatchFault.Memory → reason_of fault ≡ packed_refusal game.entry.game.now prepared.setup) }
 {

@@ -8,7 +8,7 @@ use Rattle.match_plans.specs.declared.plan.MatchPlan.{MatchPlan}
 use Rattle.match_season.specs.declared.queue.WaitingMatch.{WaitingMatch}
 use Rattle.match_season.specs.declared.queue.MatchQueue.{MatchQueue}
 
--- the number is appended to the list, unless the list already has it
+-- the number is appended to the list, unless the list already contains it
 abbrev pub ListsOnce : List ℕ → List ℕ → ℕ → Type 0
 ListsOnce old new number =
     ((list_any (λ it. it == number) old ≡ true) × (new ≡ old)) ⊎ ((list_any (λ it. it == number) old ≡ false) × (new ≡ old ++ number ∷ []))
@@ -27,8 +27,8 @@ number_of addresses player = position_or_len (is_at player) addresses
 abbrev pub Lengthens : Addresses → Addresses → Type 0
 Lengthens old new = (more : Addresses) × (new ≡ old ++ more)
 
--- Each of these players has fewer running matches than the limit. The list has the number of running matches of each player, indexed by the
--- player's number.
+-- Each of these players has fewer running matches than the limit. The list gives the number of running matches of each player, indexed
+-- by the player's number.
 abbrev pub are_free : List ℕ → ℕ → List ℕ → Bool
 are_free sitting concurrent players = list_all (λ player. nat_lt (get_or sitting player 0) concurrent) players
 

@@ -31,7 +31,7 @@ is_open settled place = not (get_or settled place true)
 abbrev pub mark : List Bool → ℕ → ℕ
 mark settled place = if get_or settled place false then 1 else 0
 
--- a list with this index, if the result of the match is a record and the match is not settled yet; otherwise an empty list
+-- a list of only this index, if the result of the match is a record and the match is not settled yet; otherwise an empty list
 abbrev pub places_of : {T E : Type 0} → Written → ℕ → Result T E → List ℕ
 places_of written place outcome = if is_ok outcome && is_open written.is_settled.items place then place ∷ [] else []
 
@@ -108,7 +108,7 @@ pub record WritesSomeAndPart (IsOutput : ℕ → List ℕ → Type 0) (order : R
   pub written : WritesMatches IsOutput places old middle
   pub part : WritesPart IsOutput last middle new
 
--- before a write fault, whole outputs and a part of one more output were written; before an out-of-memory error, nothing was written
+-- before a write fault, whole outputs and part of one more output were written; before an out-of-memory error, nothing was written
 abbrev pub WritesUpTo : (ℕ → List ℕ → Type 0) → RecordOrder → ℕ → Option (List ℕ) → Option (List ℕ) → SeasonFault → Type 0
 WritesUpTo IsOutput order all old new WriteFault = WritesSomeAndPart IsOutput order all old new
 WritesUpTo IsOutput order all old new Memory = new ≡ old

@@ -43,7 +43,7 @@ fn address<'a>(player: &PlayerAddress<'a>) -> (&'a str, u16)
     (player.host, player.port)
 }
 
-/// The index of a player's address in `addresses`. Appends the address if `addresses` does not have it yet.
+/// The index of a player's address in `addresses`. Appends the address if `addresses` does not contain it yet.
 fn number_of<'a>(
     addresses: &mut IndexSet<(&'a str, u16)>,
     player: &PlayerAddress<'a>,

@@ -29,7 +29,7 @@ struct SchedulerState {
     queue: MatchQueue,
     threads: usize,
     /// Whether the only thread has paused for lack of memory or threads, and every match that has ended since then ran
-    /// out of them too.
+    /// out of memory or threads too.
     has_rested: bool,
     /// Whether no more matches may begin.
     is_closed: bool,

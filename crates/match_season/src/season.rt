@@ -267,7 +267,7 @@ where
 ///
 /// If there is no memory for counting the records, or not even one thread can be started, no match begins and the
 /// result is `Memory`. Otherwise the season reports each match without a record. After a failed write, no more matches
-/// begin. The output then ends with a part of the output of one match; this part may be empty or complete. If the
+/// begin. The output then ends with part of the output of one match; this part may be empty or complete. If the
 /// result is `Memory`, nothing was written.
 pub fn play_season<'f, 'a, R, S, W: Write, E: ReportsMissing + Send>(
     around: &SeasonSurroundings<'f, '_, R, S, E>,

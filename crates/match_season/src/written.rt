@@ -3,7 +3,7 @@ ghost use Rattle.std.specs.Prelude.{◌≡◌, count_by};
 
 use std::alloc::{AllocError, Global};
 
-/// The progress of a season's output. A match is settled once its record was written or reported as missing.
+/// The progress of a season's output. A match is settled once its record has been written or reported as missing.
 #[derive(Drop)]
 pub struct Written {
     pub records: u64,

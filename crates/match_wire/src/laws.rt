@@ -1,4 +1,4 @@
-//! Laws of messages, exchanges and records.
+//! Laws about messages, exchanges and records.
 pub use http_exchange::laws::{
     carried_has_no_fault, carried_is_found, carries_one_at_most, found_is_carried, looks_stay,
     reply_is_carried, request_is_carried,

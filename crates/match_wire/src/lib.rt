@@ -1,5 +1,5 @@
-//! Re-exports, under one path, what a match sends and writes: its messages, the HTTP exchanges that carry them, its record
-//! and the check of the record. The program itself uses `match_messages`, `http_exchange`, `match_record` and `record_check`
+//! Re-exports, under one path, everything that a match sends and writes: its messages, their HTTP exchanges, its record and
+//! the check of the record. The program itself uses `match_messages`, `http_exchange`, `match_record` and `record_check`
 //! directly.
 #![tactic(auto)]
 

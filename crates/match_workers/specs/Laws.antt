@@ -1,4 +1,4 @@
--- Laws of the definitions.
+-- Laws about the messages that the desk of a refereed match owed to each role.
 use Rattle.std.specs.Prelude.{◌≡◌, ℕ, List, Option, Some, Result, Ok, slice_get}
 use Rattle.std.specs.List.{filter_map}
 use Rattle.game_core.specs.Play.{Rules}

@@ -12,7 +12,7 @@ referee_fault Full = IsFull
 referee_fault Memory = IsMemory
 referee_fault Stalled = IsUnclosed
 
--- the reason of a refusal, or None for any other error
+-- the reason why the desk refused the match; None for any other error
 abbrev pub reason_of : RefereeFault → Option Refusal
 reason_of (Refused reason) = Some reason
 reason_of IsUnclosed = None

@@ -1,4 +1,4 @@
-//! Laws of the definitions.
+//! Laws about the messages that the desk of a refereed match owed to each role.
 ghost use Rattle.match_workers.specs.Laws.{RolesAreOwed};
 
 use game_core::Game;

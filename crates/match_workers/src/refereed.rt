@@ -12,7 +12,7 @@ use role_workers::AttendFault;
 /// The result of a refereed match.
 #[derive(Drop)]
 pub struct Refereed<G: Game> {
-    /// The desk's history, and its manager, which has the one match.
+    /// The desk's history, and its manager, whose only match is this one.
     pub closed: Closed<Manager<G>>,
     /// The result of attending each role, in the order of the roles: the number of messages that the role's player
     /// received, or an error.
@@ -21,7 +21,7 @@ pub struct Refereed<G: Game> {
 }
 
 impl<G: Game> Refereed<G> {
-    /// The one match, and its game.
+    /// The only match of the desk, and its game.
     pub fn game_and_match(&self) -> (&G, &Match<G>)
         ensures one { length self.now.closed.object.matches ≡ 1 }
         ensures held { first_match self.now.closed.object ≡ Some result.1.now }

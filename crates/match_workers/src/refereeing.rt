@@ -99,7 +99,7 @@ fn role_names<G: Game>(alloc: Global, game: &G) -> Result<Texts, AllocError>
     Ok(Texts { items })
 }
 
-/// The match data that the players get, borrowed.
+/// The borrowed match data that the players get.
 fn brief_of<'r>(
     id: &'r Text,
     roles: &'r Texts,

@@ -36,7 +36,7 @@ struct RecordBlock {
     record: Vec<u8>,
     /// The lines after the record, each with a line feed.
     account: Vec<u8>,
-    /// Whether these lines have more bytes than a call log may have.
+    /// Whether these lines are longer than the limit on a call log.
     is_too_long: bool,
 }
 

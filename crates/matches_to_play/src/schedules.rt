@@ -130,7 +130,7 @@ fn report_partial<F: Files, E: Write>(
     Ok(())
 }
 
-/// Reports that the file has no record of any match of a schedule.
+/// Reports that the file contains no record of any match of a schedule.
 fn report_none_done<E: Write>(errors: &mut E, path: &str) {
     let mut pieces = Pieces { stream: errors };
     let _ = writeln!(
@@ -140,8 +140,8 @@ fn report_none_done<E: Write>(errors: &mut E, path: &str) {
     );
 }
 
-/// The matches of a schedule, except those that are over according to the `--done` file. If this file has no record of
-/// any of them, reports this.
+/// The matches of a schedule, except those that are over according to the `--done` file. If this file contains no record
+/// of any match of the schedule, reports this.
 pub fn plans_of<'a, F: Files, E: Write>(
     files: &F,
     alloc: Global,

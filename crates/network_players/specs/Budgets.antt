@@ -1,4 +1,4 @@
--- How many bytes a player's answers in a match may have.
+-- The limit on the total length of a player's answers in a match.
 use Rattle.std.specs.Prelude.{◌≡◌, ◌⊎◌, ◌+◌, ◌-◌, ◌^◌, ◌≤◌, ℕ, List, length, min}
 use Rattle.desk_calls.specs.declared.answer.Answer.{Answer}
 use Rattle.desk_calls.specs.declared.answer.Answer.TheVariants.{Text}
@@ -8,11 +8,11 @@ use Rattle.network_players.specs.declared.answer_budget.AnswerBudget.{AnswerBudg
 abbrev pub spent_after : ℕ → ℕ → ℕ → ℕ
 spent_after spent free length = min (2 ^ 64 - 1) (spent + (length - free))
 
--- An answer of this length counts: it is free, or with it at most 1,048,576 bytes are spent.
+-- An answer of this length counts: either it is free, or at most 1,048,576 bytes are spent, including this answer.
 abbrev pub IsPaid : ℕ → ℕ → ℕ → Type 0
 IsPaid spent free length = (length ≤ free) ⊎ (spent ≤ 1048576)
 
--- the budget is large enough for this text, and its bytes are spent
+-- the budget is large enough for this text, and the bytes of the text are spent
 abbrev pub IsPaidBy : AnswerBudget → AnswerBudget → List ℕ → Type 0
 IsPaidBy before after text = (after.spent ≡ spent_after before.spent before.free (length text)) × IsPaid after.spent after.free (length text)
 

@@ -95,12 +95,12 @@ longest_pause faults.NoAddress = 500000000
 longest_pause fault = 50000000
 
 -- Whether the player may have closed the connection because the program had been stopped (`has_stopped`): before it had the whole request,
--- or, when the message is sent for the first time, before it sent an answer.
+-- or, if `may_cross` is true, before it sent an answer.
 abbrev pub is_cut_by_stop : Bool → Bool → ContactFault → Bool
-is_cut_by_stop true is_first (faults.Exchange exchange_faults.WriteFault Unsent) = true
-is_cut_by_stop true is_first (faults.Exchange exchange_faults.CutShort Nothing) = is_first
-is_cut_by_stop true is_first (faults.Exchange (exchange_faults.ReadFault kind) Nothing) = is_first
-is_cut_by_stop has_stopped is_first fault = false
+is_cut_by_stop true may_cross (faults.Exchange exchange_faults.WriteFault Unsent) = true
+is_cut_by_stop true may_cross (faults.Exchange exchange_faults.CutShort Nothing) = may_cross
+is_cut_by_stop true may_cross (faults.Exchange (exchange_faults.ReadFault kind) Nothing) = may_cross
+is_cut_by_stop has_stopped may_cross fault = false
 
 abbrev pub exchange_fault : Received → WireFault → ContactFault
 exchange_fault received exchange_faults.Memory = faults.Shortage Memory

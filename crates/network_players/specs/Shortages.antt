@@ -36,7 +36,7 @@ is_of_either (Some number) = is_among errors_of_either (unsigned_abs number)
 is_of_either None = false
 
 -- What the referee lacks according to a system error, from the error's kind and number. Only this computer causes these errors. A peer,
--- a router or a firewall on the way can cause all others: ECONNREFUSED, EHOSTUNREACH, ENETUNREACH, EACCES, EPROTO, ENOPROTOOPT,
+-- a router or a firewall on the way can cause all other errors: ECONNREFUSED, EHOSTUNREACH, ENETUNREACH, EACCES, EPROTO, ENOPROTOOPT,
 -- EOPNOTSUPP, EHOSTDOWN, ENONET and EMSGSIZE through ICMP, and ECONNREFUSED, ECONNRESET, EPIPE and ETIMEDOUT through TCP.
 abbrev pub system_shortage : ErrorKind → Option ℤ → Option Shortage
 system_shortage OutOfMemory number = Some Memory
@@ -78,7 +78,7 @@ failed_halt WouldBlock number = Some (faults.Late Unconnected)
 failed_halt TimedOut None = Some (faults.Late Unconnected)
 failed_halt kind number = short_halt (system_shortage kind number)
 
--- the codes by which threads share what the referee lacks
+-- the codes that threads use to share what the referee lacks
 abbrev pub shortage_codes : List (ℕ × Shortage)
 shortage_codes = (1, Descriptors) ∷ (2, Ports) ∷ (3, Memory) ∷ (4, Clock) ∷ (5, Resolver) ∷ (6, Network) ∷ (7, Processor) ∷ []
 

@@ -1,4 +1,4 @@
-//! Limits how many bytes the answers of a player may have in a match.
+//! Limits the total length of a player's answers in a match.
 ghost use Rattle.std.specs.Prelude.{◌≡◌, ◌↔◌, max, IsTrue};
 ghost use Rattle.network_players.specs.Budgets.{IsPaid, spent_after};
 

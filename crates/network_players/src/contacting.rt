@@ -548,9 +548,9 @@ fn exchange_over<N: Net + Clock>(
 }
 
 /// Whether the player may have closed the connection because the program had been stopped (`has_stopped`): it gave up waiting for the request
-/// or for the rest of it. If the request was fully written meanwhile, this counts only when the message is sent for the first time.
-fn is_cut_by_stop(fault: ContactFault, has_stopped: bool, is_first: bool) -> bool
-    ensures { result ≡ is_cut_by_stop has_stopped is_first fault }
+/// or for the rest of it. The whole request may have been written before this showed: then it counts only if `may_cross`.
+fn is_cut_by_stop(fault: ContactFault, has_stopped: bool, may_cross: bool) -> bool
+    ensures { result ≡ is_cut_by_stop has_stopped may_cross fault }
 {
     has_stopped
         && match fault {
@@ -558,7 +558,7 @@ fn is_cut_by_stop(fault: ContactFault, has_stopped: bool, is_first: bool) -> boo
             ContactFault::Exchange(
                 WireFault::CutShort | WireFault::ReadFault(_),
                 Received::Nothing,
-            ) => is_first,
+            ) => may_cross,
             _ => false,
         }
 }
@@ -577,14 +577,17 @@ pub fn contact_found<N: Resolves + Clock>(
 ) -> Result<Text, ContactFault> {
     let mut deadline = Deadline::within(net, seconds)?;
     let whole = deadline.left;
-    for sent in 0..MAX_SENDS {
+    let mut may_cross = true;
+    for _ in 0..MAX_SENDS {
         let reached = match connect(net, alloc, player, lookup, &mut deadline) {
             Ok(stream) => exchange_over(net, alloc, player, &mut deadline, stream, message),
             Err(fault) => Err(fault),
         };
         match reached {
             Ok(text) => return Ok(text),
-            Err(fault) if is_cut_by_stop(fault, deadline.has_stopped(), sent == 0) => {
+            Err(fault) if is_cut_by_stop(fault, deadline.has_stopped(), may_cross) => {
+                // A player that read the request and sent no answer could otherwise use each stop for more time.
+                may_cross = may_cross && is_cut_by_stop(fault, true, false);
                 deadline.left = whole;
             }
             Err(fault) => return Err(blamed(net, lookup, fault)),

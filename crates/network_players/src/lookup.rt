@@ -46,7 +46,7 @@ pub struct HostQuery {
 }
 
 impl HostQuery {
-    /// Makes the lookup, which may take long, and stores the result.
+    /// Makes the lookup, which may take a long time, and stores the result.
     pub fn make<N: Routes>(&self, net: &N) {
         self.end(addresses(net, self.alloc, self.host.as_str(), self.port));
     }
@@ -78,7 +78,7 @@ impl HostQuery {
     }
 }
 
-/// A network on which hosts have names.
+/// A network that can look up host names.
 pub trait Resolves: Routes {
     /// Starts the lookup, and returns it; or returns a lookup of the same host that has not ended. The error is what the
     /// referee lacks for another lookup.
@@ -121,7 +121,7 @@ pub struct Lookup {
     found: Option<Vec<SocketAddr>>,
     /// Whether the first address is first because it has accepted a connection.
     pub(crate) has_preferred: bool,
-    /// The address of this computer from which it last reached the first address, if this is known.
+    /// The address of this computer that it last used to reach the first address, if this is known.
     home: Option<SocketAddr>,
     /// The lookup that has not ended yet.
     query: Option<Arc<HostQuery>>,
@@ -145,8 +145,8 @@ fn query_of(
     Ok(Arc::new(alloc, query)?)
 }
 
-/// Starts a lookup, or joins one of the same host. If the host is an address, the lookup needs no resolver and is made at once. The error is
-/// what the referee lacks for the lookup.
+/// Starts a lookup, or joins a lookup of the same host. If the host is an address, the lookup needs no resolver and is made at once. The
+/// error is what the referee lacks for the lookup.
 fn begun<N: Resolves>(
     net: &N,
     alloc: Global,
@@ -166,7 +166,7 @@ fn begun<N: Resolves>(
     }
 }
 
-/// The time that is requested for the start of the lookup. An address needs no resolver: if its lookup takes time, the referee was not running.
+/// The time requested for starting the lookup. An address needs no resolver: if its lookup takes time, the referee was not running.
 fn longest_begin<N: Resolves>(net: &N, player: &PlayerAddress<'_>, left: Duration) -> Duration {
     if is_address(player.host) {
         Duration::ZERO
@@ -230,9 +230,9 @@ impl Lookup {
         }
     }
 
-    /// Looks up the addresses of the player's host, for as long as the message has time. Once it has some, later calls return the same
-    /// addresses. A lookup that takes longer continues for the next message. If the lookup takes too long while this computer has no
-    /// network, the referee lacks a network.
+    /// Looks up the addresses of the player's host, for as long as the message has time. After a lookup has found some, later calls
+    /// return the same addresses. A lookup that takes longer continues for the next message. If it takes too long while this computer has
+    /// no network, the referee lacks a network.
     pub fn look_up<N: Resolves + Clock>(
         &mut self,
         net: &N,
@@ -294,8 +294,8 @@ impl Lookup {
         }
     }
 
-    /// What this computer lacks if the address with this index has accepted a connection before, and this computer has lost the address or
-    /// the route by which it reached it.
+    /// What this computer lacks if the address with this index has accepted a connection before, and this computer has lost its own
+    /// address or its route for that connection.
     pub(crate) fn lack_of_home<N: Routes>(&self, net: &N, place: usize) -> Option<Shortage> {
         match (place, &self.home, self.addresses().first()) {
             (0, Some(home), Some(address)) => lack_of_home(net, home, address),

@@ -1,5 +1,5 @@
-//! The lookups of the whole program that have not ended. Their number is limited, because a resolver may take long to answer, and the lookups
-//! must leave descriptors for the matches.
+//! The lookups of the whole program that have not ended. Their number is limited, because a resolver may take a long time to answer, and
+//! the lookups must leave descriptors for the matches.
 ghost use Rattle.std.specs.Prelude.{◌≡◌, ◌≤◌, IfOk, IfSome, length, string_bytes};
 ghost use Rattle.std.specs.Arc.{arc_value};
 ghost use Rattle.network_players.specs.Lookups.{lookup_descriptors};
@@ -18,7 +18,7 @@ const MOST: u64 = 1_024;
 /// The number of descriptors if the limit is unknown.
 const USUAL_DESCRIPTORS: u64 = 1_024;
 
-/// The number of descriptors that are reserved for lookups: a quarter of all, but enough for one lookup, and at most for 1,024.
+/// The number of descriptors that are reserved for lookups: a quarter of all, but enough for at least one lookup and at most 1,024.
 pub fn lookup_descriptors(descriptors: u64) -> u64
     ensures { result ≡ lookup_descriptors descriptors }
 {
@@ -44,8 +44,8 @@ impl PendingLookups {
         }
     }
 
-    /// A lookup of the same host that has not ended, if there is one. Otherwise this adds the query, which the caller must
-    /// start. If a lookup began long ago, a second one begins, unless no other may begin. The error is what the referee lacks for another lookup.
+    /// A lookup of the same host that has not ended, if there is one. Otherwise this adds the query, which the caller must start. If the
+    /// lookup began long ago, a second one begins, unless the limit is reached. The error is what the referee lacks for another lookup.
     pub(crate) fn join(
         &mut self,
         query: &Arc<HostQuery>,

@@ -17,7 +17,7 @@ const UNREACHABLE: i32 = 101;
 /// How often the way to an address is determined, because a computer with several default routes may use them in turn.
 const MAX_SOURCES: u32 = 8;
 
-/// The address of this computer from which it reaches others of the same family.
+/// The address that this computer uses to reach other addresses of the same family.
 pub(crate) fn any_address(address: &SocketAddr) -> SocketAddr
     ensures { is_ipv4 (socket_ip result) ≡ is_ipv4 (socket_ip address.now) }
 {
@@ -52,12 +52,12 @@ fn route_shortage(error: &io::Error) -> Shortage
 
 /// A network with known routes.
 pub trait Routes: Net {
-    /// The address of this computer from which packets to the given address travel, with the port 0. The error means that there is no route,
-    /// or no socket to find it out. Sends nothing.
+    /// The address of this computer that packets to the given address leave from, with port 0. The error means that there is no route, or
+    /// no socket to find the route. Sends nothing.
     fn source(&self, address: &SocketAddr) -> io::Result<SocketAddr>;
 
-    /// Tries to send an empty datagram to the address. Only this computer's interfaces, routes and firewall can make this fail: the socket is
-    /// new, so it cannot have received a reply.
+    /// Tries to send an empty datagram to the address. Only this computer's interfaces, routes and firewall can make this fail: the socket
+    /// is new, so it cannot have received a reply.
     fn probe(&self, address: &SocketAddr) -> io::Result<()>;
 }
 
@@ -93,8 +93,8 @@ fn lack_of_route<N: Routes>(net: &N, address: &SocketAddr) -> Option<Shortage> {
     }
 }
 
-/// What this computer lacks if packets to the IPv4 address no longer leave from `home`, its own address from which they left before. A route that
-/// refuses only this address does not count. An IPv6 address does not count, because a router can change routes and addresses of IPv6.
+/// What this computer lacks if packets to the IPv4 address no longer leave from `home`, the address that they left from before. A route
+/// that refuses only this address does not count. An IPv6 address does not count, because a router can change routes and addresses of IPv6.
 pub(crate) fn lack_of_home<N: Routes>(
     net: &N,
     home: &SocketAddr,
@@ -119,7 +119,7 @@ pub(crate) fn lack_of_network<N: Routes>(net: &N) -> Option<Shortage> {
     lack_of_route(net, &outside(false))
 }
 
-/// What this computer lacked before or lacks now, if it had or has no network.
+/// What this computer lacked before or lacks now, if it had no network before or has none now.
 pub(crate) fn lack_since<N: Routes>(net: &N, before: Option<Shortage>) -> Option<Shortage>
     ensures { IfSome before (λ shortage. result ≡ Some shortage) }
 {

@@ -1,4 +1,4 @@
-//! Errors of the system that mean that the referee lacks a resource.
+//! System errors that mean that the referee lacks a resource, for example memory or a port.
 ghost use Rattle.std.specs.Prelude.{◌≡◌, Some};
 ghost use Rattle.std.specs.IoError.{error_kind, raw_os_error};
 ghost use Rattle.network_players.specs.Shortages.{coded_shortage, error_shortages, is_of_either, lookup_shortage, shortage_in, system_shortage};
@@ -81,7 +81,7 @@ pub(crate) fn lookup_shortage(
     }
 }
 
-/// The code by which threads share what the referee lacks.
+/// The code that threads use to share what the referee lacks.
 pub(crate) fn code_of(shortage: Shortage) -> u64
     ensures { coded_shortage result ≡ Some shortage }
 {

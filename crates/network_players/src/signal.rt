@@ -20,7 +20,7 @@ const NO_SHORTAGE: u64 = 0;
 /// The signal that the players of a match share. It says when a round begins, and what the referee lacked.
 ///
 /// A round begins when a player gets its next message, since each role gets one message in a round. No guarantee depends on when a
-/// player is woken: a player that is not woken continues when its wait is over.
+/// player is woken: a player that is not woken continues when its wait ends.
 #[derive(Drop)]
 pub struct RoundSignal {
     /// The highest number of a message that a player got.
@@ -107,7 +107,7 @@ fn rest_after(rest: Duration) -> Duration
     if doubled < longest { doubled } else { longest }
 }
 
-/// The waits of a player between its messages. Each ends when a round begins. The first wait after a message takes at
+/// The waits of a player between its messages. Each wait ends when a round begins. The first wait after a message takes at
 /// most a tenth of a second, and each further wait at most twice as long as the one before, up to two seconds.
 pub struct Pace<'a> {
     signal: &'a RoundSignal,

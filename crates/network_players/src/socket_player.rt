@@ -31,8 +31,8 @@ pub struct Sockets<'a, H> {
     ghost has_one: { 0 < length signals.now },
 }
 
-/// A player on the network. Each message goes over a separate connection to the addresses that the host had at the first message. Once one of
-/// them has accepted a connection, the others are used only while this computer lacks a resource.
+/// A player on the network. Each message goes over a separate connection to one of the addresses that a lookup has found for its
+/// host. Once one address has accepted a connection, the player uses the others only while this computer lacks a resource.
 #[derive(Drop)]
 pub struct SocketPlayer<'a, H> {
     rt: &'a H,
@@ -106,7 +106,7 @@ pub fn answer_of(exchanged: Result<Text, WireFault>) -> Answer
     }
 }
 
-/// The answer for a message to a player: silent if the time was over, and broken after any other error. If the referee lacked a
+/// The answer for a message to a player: silent if the time ran out, and broken after any other error. If the referee lacked a
 /// resource, the answer counts as broken too, and the match has no record.
 fn contact_answer(reached: Result<Text, ContactFault>) -> Answer
     ensures { result ≡ contact_answer reached }

@@ -11,7 +11,7 @@ abbrev pub known : {A T : Type 0} → Bool → Literal A T
 known true = Not (Or End)
 known false = Or End
 
--- one level of a literal whose inner literals have been converted
+-- one level of a literal; its inner literals are already converted
 abbrev pub view_step : Literal-F (Literal ℕ ℕ) → Literal ℕ ℕ
 view_step (Literal-F.Holds a) = Holds a
 view_step (Literal-F.InState t) = InState t
@@ -47,7 +47,7 @@ numbered state joint = record { same = nat_eq; same_term = nat_eq; in_state = bi
 abbrev pub unset : ℕ → List Bool
 unset n = replicate n false
 
--- the row after one pass over the rules, in which each rule whose body is true sets its head
+-- the row after one pass over the rules: a rule sets its head if its body is true
 abbrev pub row_after : Situation ℕ ℕ → List Bool → List (Rule ℕ ℕ) → List Bool
 row_after w row [] = row
 row_after w row (r ∷ rs) = row_after w (if all_true w (bit row) r.body then slice_set row r.head true else row) rs

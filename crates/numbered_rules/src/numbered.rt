@@ -9,7 +9,7 @@ pub enum Literal {
     Does(usize, usize),
     Not(Box<Literal>),
     Or(Vec<Literal>),
-    /// A literal whose truth never changes, for example a `distinct` literal.
+    /// A literal that is always true or always false, for example a `distinct` literal.
     Known(bool),
 }
 

@@ -1,4 +1,4 @@
-//! An order of the derived atoms in which each atom comes after the atoms that it needs.
+//! Ranks the derived atoms: each atom comes after the atoms that it needs.
 ghost use Rattle.std.specs.Prelude.{◌≡◌, ◌<◌, ◌+◌, ◌≤◌, ℕ, length, IfOk, OnOk, Some, None, slice_index, false, true, IfSome, IfNone, ◌-◌, ◌≢◌};
 ghost use Rattle.numbered_rules.specs.Order.{IsGraph, IsGraphAcyclic, IsRanking, needs_at};
 ghost use Rattle.numbered_rules.specs.Internal.Search.{IsSearching, IsLinked, mark, work, IsPlaced, AreOnlyOld};
@@ -116,7 +116,7 @@ impl Search {
         place
     }
 
-    /// Makes one step at the end of the path. Returns true if it closes a cycle.
+    /// Makes one step at the end of the path. Returns true if this step closes a cycle.
     fn step(&mut self, needs: &[Needs]) -> Result<bool, AllocError>
         requires search { IsSearching needs.now self.old.marks.items self.old.next.items self.old.path.items self.old.order.items }
         requires some { 0 < length self.old.path.items }
@@ -180,7 +180,7 @@ impl Search {
     }
 }
 
-/// An order of the atoms in which each one comes after the atoms that it needs, and the place of each atom in this order.
+/// A ranking: an order that puts each atom after the atoms that it needs, and the place of each atom in this order.
 #[derive(Drop)]
 pub struct Ranking {
     pub order: Vec<usize>,

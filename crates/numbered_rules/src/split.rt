@@ -13,7 +13,7 @@ pub struct SplitRules {
     pub turn: Vec<Rule>,
 }
 
-/// Splits the rules into those whose heads are not set in the row and those whose heads are set. Both parts keep their order.
+/// Separates the rules with heads that are not set in the row from the rules with heads that are set. Both parts keep their order.
 pub fn split(alloc: Global, rules: Vec<Rule>, row: &Row) -> Result<SplitRules, AllocError>
     ensures rest { IfOk result (λ s. s.rest.items ≡ filter (λ r. not (bit row.now r.head)) rules.items) }
     ensures turn { IfOk result (λ s. s.turn.items ≡ filter (λ r. bit row.now r.head) rules.items) }

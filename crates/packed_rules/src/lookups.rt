@@ -12,7 +12,7 @@ use ground_rules::tables::{GoalHead, Mention};
 use std::alloc::{AllocError, Global};
 use std::borrow::CowSlice;
 
-/// Makes a row of `terms` terms and `atoms` atoms, in which the terms of the true mentions are set.
+/// Makes a row of `terms` terms and `atoms` atoms, and sets the terms of the true mentions.
 pub fn mark(
     alloc: Global,
     mentions: &[Mention],
@@ -33,7 +33,7 @@ pub fn mark(
     Ok(bits)
 }
 
-/// The moves whose heads are true.
+/// The moves with true heads.
 pub fn choose(
     alloc: Global,
     heads: &[Mention],

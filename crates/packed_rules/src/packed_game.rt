@@ -118,7 +118,7 @@ impl PackedGame {
     ghost use Rattle.packed_rules.specs.PackedTables.{rest_of, turn_of};
     ghost use Rattle.packed_rules.specs.PackedGames.{sentences_of, tables_of};
 
-    /// The state in which the terms of the true mentions are set. The row has the truth values of terms and derived atoms.
+    /// Makes the state with the terms of the true mentions set. The row has the truth values of terms and derived atoms.
     fn state_of(
         &self,
         alloc: Global,

@@ -12,7 +12,7 @@ use std::alloc::{AllocError, Global};
 use std::marker::Model;
 use std::snapshot::Snapshot;
 
-/// The rules whose heads do not depend on moves, and the others. Contracts see the rules that were packed.
+/// The rules with heads that do not depend on moves, and the others. Contracts see the rules before packing.
 #[derive(Drop)]
 pub struct PackedRules {
     /// The number of terms in the row of a state.
@@ -53,7 +53,7 @@ impl PackedRules {
         })
     }
 
-    /// The row after a pass over the rules whose heads do not depend on moves.
+    /// The row after a pass over the rules with heads that do not depend on moves.
     pub fn pass_rest(&self, bits: BitRow) -> BitRow
         ensures terms { take self.now.terms result ≡ take self.now.terms bits }
         ensures atoms { drop self.now.terms result ≡ row_after (numbered (take self.now.terms bits) []) (drop self.now.terms bits) (rest_of self.now) }

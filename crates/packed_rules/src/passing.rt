@@ -83,7 +83,7 @@ fn all_agree(tests: &[MoveTest], joint: &[usize]) -> bool
     true
 }
 
-/// Evaluates the rules in order, and sets the head of each rule whose literals are true. Each rule takes its literals from
+/// Evaluates the rules in order, and sets the head of a rule if its literals are true. Each rule takes its literals from
 /// the front of the remaining ones.
 fn sweep(table: &RuleTable, words: &mut [u64], size: usize, terms: usize, joint: &[usize])
     requires size { size ≤ length words.old * 64 }
@@ -116,7 +116,7 @@ fn sweep(table: &RuleTable, words: &mut [u64], size: usize, terms: usize, joint:
     }
 }
 
-/// Evaluates the rules in order, and sets the head of each rule whose tests pass. For rules that have only tests, this
+/// Evaluates the rules in order, and sets the head of a rule if its tests pass. For rules that have only tests, this
 /// loop is twice as fast.
 fn sweep_tests(rules: &[RuleSize], tests: &[Test], words: &mut [u64], size: usize, terms: usize)
     requires size { size ≤ length words.old * 64 }

@@ -1,4 +1,4 @@
--- The parts of a message and its answer that an exchange has.
+-- The parts of a message and its answer that an exchange contains.
 use Rattle.std.specs.Prelude.{◌≡◌, ◌↔◌, ℕ, Bool, List, [], IsTrue}
 use mathlib.Core.List.{IsPrefix}
 use Rattle.desk_calls.specs.declared.answer.Answer.{Answer}

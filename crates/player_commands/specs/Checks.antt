@@ -31,7 +31,7 @@ use Rattle.player_commands.specs.declared.watched.CheckedPlayer.{CheckedPlayer}
 abbrev pub match_id : ℕ → List ℕ
 match_id role = codes "check-" ++ decimal role
 
--- A player of this match is watched if and only if it has this role. Then the player that it wraps was reached at the address.
+-- A player of this match is watched if and only if it has this role. If it is watched, the player that it wraps was reached at the address.
 abbrev pub is_watched : (H : Type 0) → {P : Type 0} → (RolePlace → PlayerAddress → P → Type 0) → ℕ → RolePlace → PlayerAddress → CheckedPlayer H P → Type 0
 is_watched H is_reached role at address participant = (is_some participant.watched ≡ (at.role == role)) × IfSome participant.watched (is_reached at address)
 

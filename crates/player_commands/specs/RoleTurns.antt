@@ -11,7 +11,7 @@ use Rattle.match_messages.specs.Handing.{Handed}
 use Rattle.match_play.specs.PlayedMatches.{IsEndedWith}
 use Rattle.player_commands.specs.declared.role_turns.RoleTurn.{RoleTurn}
 
--- `told` has the text and the error of the role's move in this turn
+-- `told` gives the text and the error of the role's move in this turn
 pub record IsTurnOf {S M : Type 0} (g : Rules S M) (turns : List (Turn M)) (role : ℕ) (turn : ℕ) (told : RoleTurn) : Type 0 where
   pub played : option_map g.move_text (move_at turns turn role) ≡ Some told.played
   pub error : error_at turns turn role ≡ Some told.error

@@ -1,4 +1,4 @@
-//! Checks a player: plays a match for each role of a game, and watches the player in it.
+//! Checks a player: plays a match for each role of a game, and watches the player in each match.
 ghost use Rattle.std.specs.Prelude.{◌≡◌, ◌≢◌, ◌<◌, ◌++◌, ℕ, List, Err, IfErr, IfOk, OnOk, option_copied};
 ghost use Rattle.game_core.specs.Counting.{one_more};
 ghost use Rattle.player_commands.specs.Checks.{AreTurnsIn, EndsEarly, IsToldOf, WritesCheck};
@@ -24,7 +24,7 @@ use std::time::Clock;
 use thiserror::Error;
 use whole_streams::{WriteFault, write_all};
 
-/// Why a check ended early. The table has the rows of the earlier matches and, after a write fault, a part of the rows
+/// Why a check ended early. The table contains the rows of the earlier matches and, after a write error, part of the rows
 /// of the last match.
 #[derive(Clone, Copy, Debug, PartialEq, Eq, Error)]
 pub enum CheckFault {

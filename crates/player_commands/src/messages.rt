@@ -53,7 +53,7 @@ fn info_word(info: Info) -> &'static str
     }
 }
 
-/// The line with a JSON object that has the name of a player and this verdict.
+/// The line with a JSON object that contains the name of a player and this verdict.
 fn verdict_line(alloc: Global, name: &str, verdict: &str) -> Result<String, AllocError>
     ensures { IfOk result (λ line. string_bytes line ≡ verdict_line name.now verdict.now) }
 {
@@ -213,7 +213,7 @@ fn write_abort<W: Write>(
 }
 
 /// Sends ABORT to the players of a match, one after another, and prints for each player whether it answered. If the
-/// referee lacks a resource for a player, prints this only as JSON, and continues with the next player.
+/// referee lacks a resource for a player, prints this only if the output is JSON, and continues with the next player.
 pub fn abort<N: Resolves + Clock, W: Write, E: Write + Drop>(
     rt: &N,
     alloc: Global,

@@ -91,7 +91,7 @@ pub fn row_verdict(exchange: &Exchange, turn: Option<&RoleTurn>) -> Verdict
 }
 
 /// The column `fault` for an exchange with this turn and this verdict: the error, or the reason why the answer is not a
-/// move or not legal. If all is well, the text is empty.
+/// move or not legal. If there is neither, this is an empty string.
 pub fn fault_words(
     alloc: Global,
     exchange: &Exchange,

@@ -13,14 +13,14 @@ const LIMITS: &str = "/proc/self/limits";
 /// The largest number of bytes to read from this file.
 const MAX_LIMITS: usize = 65_536;
 
-/// The name of the limit of open file descriptors in `/proc/self/limits`.
+/// The name of the limit on open file descriptors in `/proc/self/limits`.
 pub const DESCRIPTORS: &str = "Max open files";
 
-/// The name of the limit of a file's size in bytes in `/proc/self/limits`.
+/// The name of the limit on a file's size in bytes in `/proc/self/limits`.
 pub const FILE_SIZE: &str = "Max file size";
 
-/// The soft limit with this name in the text of `/proc/self/limits`, or `None` if the text has no such name or there is
-/// no limit.
+/// The soft limit with this name in the text of `/proc/self/limits`, or `None` if the text does not contain the name
+/// or there is no limit.
 pub fn limit_in(limits: &str, name: &str) -> Option<u64> {
     for line in limits.lines() {
         if let Some(rest) = line.strip_prefix(name) {

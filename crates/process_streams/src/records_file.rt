@@ -70,13 +70,13 @@ fn length_of(opened: &Metadata, named: io::Result<Metadata>) -> io::Result<u64> 
 /// How a file has changed while this program appended records to it.
 #[derive(Clone, Copy)]
 pub enum RecordsState {
-    /// Only this program has changed it.
+    /// Only this program has changed the file.
     Kept,
-    /// It was removed, renamed or replaced, so its path no longer names it.
+    /// The file was removed, renamed or replaced, so its path no longer names it.
     Lost,
-    /// Another program has shortened it.
+    /// Another program has shortened the file.
     Cut,
-    /// Another program has appended to it.
+    /// Another program has appended to the file.
     Grown,
 }
 

@@ -61,7 +61,7 @@ fn is_blank(marks: &[Option<Mark>]) -> bool
     true
 }
 
-/// The stage of a match whose last state has this settlement. A requested abort comes first, then missing START marks.
+/// The stage of a match, given the settlement of its last state. A requested abort comes first, then missing START marks.
 fn stage_by(asked: bool, started: bool, settled: Stage) -> Stage
     ensures { result ≡ stage_by asked started settled }
 {
@@ -81,7 +81,7 @@ fn is_live(stage: Stage) -> bool
     matches!(stage, Stage::Starting | Stage::Playing)
 }
 
-/// Whether the phase, the cause and the marks are those of a match whose last state has this settlement.
+/// Whether the phase, the cause and the marks are those of a match, given the settlement of its last state.
 fn agrees_with(parts: &RecordParts, settled: Stage, roles: usize) -> bool
     requires starts { length parts.now.start_marks ≡ roles }
     requires ends { length parts.now.end_marks ≡ roles }

@@ -48,7 +48,7 @@ IsFirstWithout {A} Passes xs x = (before after : List A) × (xs ≡ before ++ x 
 abbrev pub HasWrongLength : RecordParts → Key → Type 0
 HasWrongLength p key = ((key ≡ Errors) × (length p.errors ≢ length p.moves)) ⊎ ((key ≡ States) × (length p.errors ≡ length p.moves) × (length p.states ≢ suc (length p.moves)))
 
--- the first key whose value does not have the key's shape; or, if all values have the right shape, a key whose list has the wrong length
+-- the first key with a value of the wrong shape; or, if all values have the right shape, a key with a list of the wrong length
 abbrev pub IsMisshapen : {S M : Type 0} → Rules S M → Data → Key → Type 0
 IsMisshapen g tree key = IsFirstWithout (IsShaped g tree) keys key ⊎ ((p : RecordParts) × Holds tree p × ((at : Key) → IsShapedAt g at p) × HasWrongLength p key)
 

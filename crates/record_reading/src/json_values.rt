@@ -75,7 +75,7 @@ pub fn into_object(alloc: Global, tree: Value) -> Map<String, Value>
     }
 }
 
-/// A type whose values have only one form in JSON.
+/// A type with exactly one JSON form for each value.
 pub trait FromJson: Sized + Drop {
     ghost written: { Self → Data };
 

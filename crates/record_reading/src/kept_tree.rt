@@ -53,7 +53,7 @@ fn with_item(
     }
 }
 
-/// Reads the value that begins with the token. The value is kept if its lists nest at most `lists` deep, the innermost
+/// Reads the value that begins with the token. Keeps the value if its lists nest at most `lists` deep, the innermost
 /// lists have only texts, and it contains neither objects nor truth values.
 #[cycle(kept)]
 fn value_of(
@@ -100,7 +100,7 @@ fn value_of(
     }
 }
 
-/// Reads the items of a list. The items are kept if each of them is.
+/// Reads the items of a list. Keeps the items only if it keeps each of them.
 #[cycle(kept)]
 fn items_of(
     alloc: Global,
@@ -136,7 +136,7 @@ fn pass_members(alloc: Global, reader: &mut Reader<'_>, depth: usize) -> Result<
     Ok(())
 }
 
-/// How deep lists may nest in the value at this key of a record. Values at keys that no record has are not kept.
+/// How deep lists may nest in the value at this key of a record. The reader keeps no value at a key that no record has.
 fn lists_at(text: &str) -> usize
     ensures known { (key : AnyKey) → key_text key ≡ text.now → result ≡ 2 }
     ensures few { (result ≡ 2) ⊎ (result ≡ 0) }

@@ -1,4 +1,4 @@
-//! Laws of all records.
+//! Laws about the texts and trees of all records.
 ghost use Rattle.record_reading.specs.LawfulRecord.{HoldsOnePartsAtMost, LawfulPartsHaveShape, RecordTreeHoldsParts, RecordsAreLawful, RefusedIsUnlawful};
 
 use game_core::Game;

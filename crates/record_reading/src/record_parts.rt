@@ -30,7 +30,7 @@ pub enum Key {
 impl Key {
     ghost use Rattle.record_reading.specs.RecordTree.{key_text};
 
-    /// All keys, in the order in which they are written and tested.
+    /// All keys. A record is written and checked in this order.
     pub const ALL: [Key; 15] = [
         Key::Cause,
         Key::EndMarks,

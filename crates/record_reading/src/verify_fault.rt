@@ -13,9 +13,9 @@ use std::fmt;
 pub enum VerifyFault {
     /// The text is not JSON.
     NotJson,
-    /// The first key, in the order of `Key`, that is missing or whose value has the wrong shape. If all values have the
-    /// right shape: `Errors` if it does not have as many turns as `Moves`, or else `States` if its number of states is not
-    /// one more than this number of turns.
+    /// The first key, in the order of `Key`, that is missing or has a value of the wrong shape. If all values have the
+    /// right shape: `Errors` if it does not have as many turns as `Moves`, or else `States` if it does not have one state
+    /// more than there are turns.
     BadShape(Key),
     /// The role's move in this turn is not legal.
     Illegal(usize, usize),

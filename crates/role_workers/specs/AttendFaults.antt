@@ -15,7 +15,7 @@ attend_fault Memory = StopsMemory
 attend_fault Stalled = StopsStalled
 
 -- The error that stops a worker after this reply to `Next`. There is none if the reply says what is due. If the reply
--- is a refusal, the error has its reason. For any other reply the error is `Stalled`.
+-- is a refusal, the error gives its reason. For any other reply the error is `Stalled`.
 abbrev pub next_fault : Reply → Option AttendFault
 next_fault (Due due) = None
 next_fault (Refused reason) = Some (StopsRefused reason)

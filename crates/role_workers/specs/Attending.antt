@@ -32,7 +32,7 @@ MessagesAreCounted = (brief : BriefValue) (role tries : ℕ) (before after : Tel
 
 -- The events that had happened when the worker stopped with an error.
 pub data StopsAmid (whole : List Event) (last_fault : Option AttendFault) (fault : AttendFault) (events : List Event) : Type 0 where
-  -- all of them: the last reply causes the error
+  -- all events: the last reply causes the error
   at_the_last : last_fault ≡ Some fault → events ≡ whole → StopsAmid whole last_fault fault events
   -- the events before a call that gets no reply; the call may or may not have been made
   at_a_call : (cause : AskFault) (front : List Event) (call : Call) (reply : Reply) (others : List Event)
@@ -49,7 +49,7 @@ pub data StopsAfter (brief : BriefValue) (role tries : ℕ) (steps : List Step) 
   in_a_step : length steps < tries → (step : Step) → StopsAmid (events_of brief role step) (fault_after step) fault events
       → StopsAfter brief role tries steps fault events
 
--- The worker stopped early, after some complete steps and possibly a part of one more step.
+-- The worker stopped early, after some complete steps and possibly part of one more step.
 pub record StopsEarly (brief : BriefValue) (role tries : ℕ) (before after : Telling) (fault : AttendFault) : Type 0 where
   pub steps : List Step
   pub go_on : All (λ step. goes_on step ≡ true) steps

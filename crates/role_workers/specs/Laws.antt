@@ -1,4 +1,4 @@
--- Laws of the definitions.
+-- Laws about the calls of a worker, their replies, and the messages that it sends.
 use Rattle.std.specs.Prelude.{◌≡◌, ℕ, List, [], ◌∷◌, ◌++◌, All, length, map, Option, Some, Result, Ok, IsOk}
 use Rattle.std.specs.List.{filter_map}
 use Rattle.desk_calls.specs.declared.due.Due.TheVariants.{Over}

@@ -7,14 +7,14 @@ use Rattle.desk_calls.specs.declared.call.Call.TheVariants.{Next, Submit, Miss}
 use Rattle.desk_calls.specs.declared.call.Reply.{Reply}
 use Rattle.desk_calls.specs.declared.call.Reply.TheVariants.{Due}
 
--- the call asks what the match with this id owes to this role, or it has the role's answer
+-- the call asks what the match with this id owes to this role, or contains the role's answer
 abbrev pub IsRoleCall : List ℕ → ℕ → Call → Type 0
 IsRoleCall id role (Next match asked) = (match ≡ id) × (asked ≡ role)
 IsRoleCall id role (Submit match answering round text) = (match ≡ id) × (answering ≡ role)
 IsRoleCall id role (Miss match answering round broken) = (match ≡ id) × (answering ≡ role)
 IsRoleCall id role _ = ⊥
 
--- the message in the reply, if it has one
+-- the message in the reply, if the reply contains one
 abbrev pub owed_of : Reply → Option Owed
 owed_of (Due (Owe round owed)) = Some owed
 owed_of _ = None

@@ -26,7 +26,7 @@ module _ {C R : Type 0} where
     pub posted : posted_calls end ≡ posted_calls line
     pub taken : IsPrefix (taken_replies line) (taken_replies end)
 
-  -- the end of this line is one of these
+  -- the end of this line is in this list
   abbrev pub HasFinished : LineValue C R → List (LineValue C R) → Type 0
   HasFinished line ends = (end : LineValue C R) × Contains ends end × IsFinishedOf line end
 

@@ -53,8 +53,8 @@ where
     Ok(wires)
 }
 
-/// Attends each role of a match over its line of the desk. A lock protects the desk meanwhile. Afterwards, the lines
-/// post no more calls.
+/// Attends each role of a match over its line of the desk. A lock protects the desk while the workers run.
+/// Afterwards, the lines post no more calls.
 pub fn attend_match<N, O, P, R>(
     rt: &R,
     alloc: Global,

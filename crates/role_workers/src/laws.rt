@@ -1,4 +1,4 @@
-//! Laws of the definitions.
+//! Laws about the calls of a worker and the messages that it sends.
 ghost use Rattle.role_workers.specs.Attending.{MessagesAreCounted};
 ghost use Rattle.role_workers.specs.Laws.{CallsAreOfTheRole, CallsHaveReplies, OwedAreHandedOver};
 

@@ -222,7 +222,7 @@ where
     Ok(handles)
 }
 
-/// Ends the running threads after a thread could not be created: gives up the other roles over the calling thread's
+/// Ends the running threads when a thread could not be created: gives up the other roles over the calling thread's
 /// wire, and joins the running threads. Drops their results.
 fn end_seats<O, N, W, P, R>(
     rt: &R,

@@ -7,7 +7,7 @@ use Rattle.rule_sentences.specs.declared.sentence.Sentence.{Sentence as CodeSent
 use Rattle.rule_sentences.specs.declared.sentence.Rule.{Rule as CodeRule}
 use Rattle.rule_sentences.specs.Sentences.{TextLiteral, TextLiterals, TextRule, literal_of, Sentence}
 
--- one level of a literal whose inner literals have been converted
+-- one level of a literal; its inner literals are already converted
 abbrev pub view_step : Literal-F TextLiteral → TextLiteral
 view_step (Literal-F.Atomic a) = literal_of a
 view_step (Literal-F.Not l) = Not (box_value l)

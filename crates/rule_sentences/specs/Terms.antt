@@ -23,7 +23,7 @@ begins_with_atom none = false
 begins_with_atom (more (atom w) xs) = true
 begins_with_atom (more (list ys) xs) = false
 
--- an atom, or a list whose first member is an atom and whose other members are terms
+-- an atom, or a list of an atom and then any number of terms
 abbrev mutual
   pub is_term : Expression → Bool
   is_term (atom w) = is_word w

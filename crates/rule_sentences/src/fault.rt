@@ -1,12 +1,12 @@
-//! Why a description is refused.
+//! Why the loader refuses a description.
 ghost use Rattle.std.specs.Prelude.{◌≡◌};
 ghost use Rattle.rule_sentences.specs.declared.fault.LoadFault.TheVariants.{Memory};
 
 use std::alloc::{AllocError, AllocFailed};
 use thiserror::Error;
 
-/// Why a list of expressions is not a ground description. The loader tests all sentences for one of these errors before it
-/// tests for the next. The first three errors have the number of the first wrong sentence, counted from 0.
+/// Why a list of expressions is not a ground description. The loader checks all sentences for one of these errors before it
+/// checks for the next. The first three errors have the number of the first wrong sentence, counted from 0.
 #[derive(Clone, Copy, Debug, PartialEq, Eq, Error)]
 pub enum LoadFault {
     /// An atom in the sentence begins with `?`.

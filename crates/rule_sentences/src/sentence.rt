@@ -1,7 +1,7 @@
 //! Sentences of a ground description, with the canonical texts of their terms.
 use game_core::Text;
 
-/// A derived atom: an atomic sentence whose truth follows from the rules. Names and terms are canonical texts.
+/// A derived atom: an atomic sentence that is true only if a rule derives it. Names and terms are canonical texts.
 #[derive(Clone, PartialEq, Eq, Hash, Drop)]
 pub enum Derived {
     Role(Text),
@@ -38,7 +38,7 @@ pub struct Sentence {
     pub body: Vec<Literal>,
 }
 
-/// A sentence in which all atomic sentences are in allowed positions.
+/// A sentence with all its atomic sentences in allowed positions.
 #[derive(Drop)]
 pub struct Rule {
     pub head: Derived,

@@ -1,4 +1,4 @@
--- Laws of the definitions.
+-- Laws about taking the lines of a text one after another.
 use Rattle.std.specs.Prelude.{◌≡◌, ℕ, ◌<◌, List, [], ◌∷◌, ◌++◌, length}
 use Rattle.std.specs.Str.Lines.{lines}
 use Rattle.whole_streams.specs.Lines.{HasNoLineFeed, BeginsWithLine, BeginsWithLines}

@@ -1,4 +1,4 @@
-//! Laws of the definitions, for every input.
+//! Laws about taking the lines of a text one after another, for every input.
 ghost use Rattle.whole_streams.specs.Laws.{LastLineIsTaken, NextLineIsTaken};
 
 /// The lines that are taken from a text one after another are the lines of the text: each ends at a line feed, and the

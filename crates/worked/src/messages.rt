@@ -26,8 +26,8 @@ fn brief(alloc: Global, id: &[u8], role: &str, rules: &[u8]) -> Result<Brief, Fa
     })
 }
 
-/// Whether the message that the match owes to its only role has this text. `told` has the id, the role and the rules of
-/// the match.
+/// Whether the message that the match owes to its only role has this text. `told` contains the id, the role and the
+/// rules of the match.
 fn is_written(
     alloc: Global,
     told: (&[u8], &str, &[u8]),
@@ -70,7 +70,7 @@ fn are_printed(alloc: Global, exprs: &[Expr], wanted: &[&str]) -> Result<bool, A
     Ok(is_so)
 }
 
-/// Whether START has the parts that it was written from.
+/// Whether START contains the parts that it was written from.
 fn is_start(alloc: Global, found: &Message) -> Result<bool, AllocError> {
     let Message::Start {
         id,

@@ -1,4 +1,4 @@
--- Numbered rules in two parts: those whose heads do not depend on moves, and the others.
+-- Numbered rules in two parts: those with heads that do not depend on moves, and the others.
 use Rattle.std.specs.Prelude.{ℕ, ◌≡◌, ◌≢◌, false, List, [], ◌∷◌, ◌++◌, length}
 use Rattle.std.specs.List.Sorted.{IsPermutation}
 use Rattle.rule_sentences.specs.declared.sentence.Derived.{Derived}

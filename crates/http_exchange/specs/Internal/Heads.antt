@@ -1,4 +1,4 @@
--- What is known about a message while it is being read.
+-- Facts about a message while it is being read.
 use Rattle.std.specs.Prelude.{◌≡◌, ℕ, ◌≤◌, ◌⊎◌, Bool, List, Option, Some, None, ⊤}
 use Rattle.std.specs.Str.Parse.{digits_value}
 use Rattle.game_core.specs.Numerals.{are_digits}
@@ -24,7 +24,7 @@ abbrev pub agrees : Option (List ℕ) → List ℕ → Bool
 agrees None value = are_digits value
 agrees (Some before) value = writes_number (digits_value 10 before) value
 
--- nothing is known about the head yet, or this is what the bytes say about it
+-- nothing is known about the head yet, or this is the result of parsing it
 abbrev pub IsKnown : HttpKind → List ℕ → Head → Type 0
 IsKnown kind bytes head = (head ≡ Unfinished) ⊎ HeadIs kind bytes head
 

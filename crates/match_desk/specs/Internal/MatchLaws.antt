@@ -1,4 +1,4 @@
--- The laws of each match of a lawful game.
+-- Laws about each match of a lawful game.
 use Rattle.game_core.specs.Play.{Rules}
 use Rattle.match_book.specs.Laws.{NewMatchIsLawful, AnswersKeepLawful, AbortKeepsLawful, RecordedMovesAreLegal, NoErrorMeansNamed, AnswersInPlay, TakenForTheRound, StartingMeans, PlayingMeans}
 

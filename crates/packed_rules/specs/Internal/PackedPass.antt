@@ -41,7 +41,7 @@ rules_in t = placed_rules t.rules.items t.tests.items t.moves.items t.others.ite
 abbrev pub IsCut : RuleTable → Type 0
 IsCut t = AreCut t.rules.items t.tests.items t.moves.items t.others.items
 
--- the row after one pass over the rules, in which each rule whose literals are true sets its head
+-- the row after one pass over the rules: a rule sets its head if its literals are true
 abbrev pub packed_after : ℕ → List ℕ → List Bool → List PlacedRule → List Bool
 packed_after terms joint bits [] = bits
 packed_after terms joint bits (r ∷ rs) = packed_after terms joint (if fires terms joint bits r then slice_set bits (terms + r.head) true else bits) rs

@@ -1,4 +1,4 @@
--- Packed rules whose literals are in shared lists.
+-- Packed rules with their literals in shared lists.
 use Rattle.std.specs.Prelude.{ℕ, ◌≡◌, ◌≤◌, List, [], ◌∷◌, length, take, drop}
 use Rattle.numbered_rules.specs.declared.numbered.Literal.{Literal as CodeLiteral}
 use Rattle.packed_rules.specs.declared.rules.Test.{Test}

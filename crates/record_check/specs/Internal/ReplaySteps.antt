@@ -61,7 +61,7 @@ abbrev pub IsReplayAnswer : {S M : Type 0} → Rules S M → RecordParts → Res
 IsReplayAnswer g p (Ok (s, retired)) = (played : IsReplayed g p s) × AreRetired g p played.leads.turns retired × g.IsState s
 IsReplayAnswer g p (Err f) = IsFirstFault g p f
 
--- the stage, given whether an abort was requested, whether all START marks are present, and what the settling rule gives
+-- the stage, given whether an abort was requested, whether all START marks are present, and the result of the settling rule
 abbrev pub stage_by : Bool → Bool → Stage → Stage
 stage_by asked started settled = if asked then Aborting Asked else (if started then settled else Starting)
 
@@ -71,7 +71,7 @@ has_started roles p = every_role roles (is_there p.start_marks)
 abbrev pub has_ended : ℕ → RecordParts → Bool
 has_ended roles p = every_role roles (is_there p.end_marks)
 
--- the phase, the cause and the marks are those of a match whose last state has this settlement
+-- the phase, the cause and the marks are those of a match, given the settlement of its last state
 pub record AgreesWith (roles : ℕ) (p : RecordParts) (settled : Stage) : Type 0 where
   pub phase_is : phase_in (stage_by (is_asked p.cause) (has_started roles p) settled) (has_ended roles p) ≡ p.phase
   pub cause_is : cause_in (stage_by (is_asked p.cause) (has_started roles p) settled) ≡ p.cause

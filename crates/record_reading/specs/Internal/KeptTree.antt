@@ -41,7 +41,7 @@ with_one None o = None
 with_one (Some ds) None = None
 with_one (Some ds) (Some d) = Some (ds ++ d ∷ [])
 
--- the member at a key; if it is not kept, it is replaced by a truth value, which no record has
+-- the member at a key; if it is not kept, a truth value replaces it, which no record has
 abbrev pub kept_at : Data → Data
 kept_at d = if is_kept 2 d then d else boolean false
 
