@@ -58,7 +58,7 @@ def counts_in(last_line: str, is_well: bool) -> Counts:
 @dataclass
 class Jobs:
     """The running commands. Each command leads a session, so that it can be ended together with all processes that it has started. With
-    `ends_early`, all commands end when one fails. `failed` has the last lines of each command that failed."""
+    `ends_early`, all commands end when one fails. `failed` contains the last lines of each command that failed."""
 
     ends_early: bool = False
     counts: Counts = field(default_factory=Counts)

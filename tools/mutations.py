@@ -1,12 +1,13 @@
-"""The mutations of the crates: wrong changes to the code that the contracts must refuse. The gate tries the mutations of crates/NAME/must-fail, in
-the toolchain's format. All other mutations are in tests/mutations/NAME.txt, each with a name, the file that it changes, and two texts of one line:
+"""Reads and applies the mutations of the crates. A mutation is a wrong change to the code; because of the contracts, the prover must refuse the
+changed code. The gate tries the mutations in crates/NAME/must-fail, which use the toolchain's format. All other mutations are in
+tests/mutations/NAME.txt. Each has a name, the file that it changes, the old text and the new text, each on one line:
 
     bell_rings_twice: src/bell.rt
       - count += 1;
       + count += 2;
 
-The old text occurs once in the file. Further pairs may follow, each applied to the result of the earlier ones; '  @ src/other.rt' before a pair
-names another file. A row that begins with '#' is a comment."""
+The old text occurs once in the file. Further pairs of texts may follow, each applied to the result of the earlier ones; '  @ src/other.rt' before a
+pair names another file. A row that begins with '#' is a comment."""
 import os
 import re
 from collections.abc import Iterator

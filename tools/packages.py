@@ -22,7 +22,7 @@ def searched() -> str:
 
 @dataclass(frozen=True)
 class Need:
-    """A Debian package, the commands and Python modules that the tests use, and their purpose."""
+    """A Debian package, the commands and Python modules that the tests use from it, and their purpose."""
 
     package: str
     commands: tuple[str, ...]
@@ -101,7 +101,7 @@ def no_services(policy: str = POLICY) -> Iterator[None]:
 
 
 def error_of(command: Sequence[str]) -> str:
-    """Runs a command of apt-get. If the command fails, returns the output of the command, otherwise an empty text."""
+    """Runs a command of apt-get. If the command fails, returns the output of the command, otherwise an empty string."""
     how = {"stdin": subprocess.DEVNULL, "stdout": subprocess.PIPE, "stderr": subprocess.STDOUT, "text": True, "errors": "replace"}
     done = subprocess.run(command, env={**os.environ, "DEBIAN_FRONTEND": "noninteractive"}, **how)
     return f"{done.stdout}needs: {' '.join(command)}: status {done.returncode}\n" if done.returncode else ""
@@ -117,8 +117,8 @@ def install(packages: Sequence[str]) -> bool:
 
 
 def lack_of_rights() -> str | None:
-    """The gate's tests make networks, mount a disk and run as another user. If they cannot run in this process, returns the reason,
-    otherwise None."""
+    """Returns the reason why the gate's tests cannot run in this process, or None if they can. These tests make networks, mount a disk and run as
+    another user."""
     if os.geteuid():
         return 'the gate needs root, because its tests make networks and mount disks: type: sudo env "PATH=$PATH" make gate'
     made = subprocess.run(["unshare", "--net", "--mount", "true"], stdin=subprocess.DEVNULL, stderr=subprocess.PIPE, text=True)

@@ -23,8 +23,8 @@ def by_megabytes(names: list[str], megabytes: dict[str, int]) -> dict[str, float
 
 
 class Progress:
-    """Pieces of work. Up to `lanes` of them run in parallel. `seconds` has the expected time of each. As soon as one of them has ended,
-    only the proportions between these times matter."""
+    """Pieces of work. Up to `lanes` of them run in parallel. `seconds` gives the expected time of each. As soon as one of them has ended, only the
+    proportions between these times matter."""
 
     def __init__(self, seconds: dict[str, float], lanes: int) -> None:
         self.seconds, self.lanes, self.lock = seconds, lanes, threading.Lock()

@@ -41,7 +41,7 @@ def lines_in(name: str) -> int:
 
 
 def module_of(file: str) -> str:
-    """Returns the first part of the names of the tests in a file of src/: its module, or an empty text for lib.rt."""
+    """Returns the first part of the names of the tests in a file of src/: its module, or an empty string for lib.rt."""
     module = file.removeprefix("src/").removesuffix(ENDING).removesuffix(".rt").replace("/", "::")
     return "" if module == "lib" else f"{module}::"
 

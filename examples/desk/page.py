@@ -26,7 +26,7 @@ HEAD = "<!DOCTYPE html><title>Tic-tac-toe</title><style>body{font:2em monospace}
 
 
 class Match:
-    """A match on the desk, the marks on its board, and the player who has the turn."""
+    """A match on the desk, the marks on its board, and the player whose turn it is."""
 
     def __init__(self, desk: Desk) -> None:
         self.desk, self.id, self.round, self.turn = desk, secrets.token_hex(8), 0, 0

@@ -31,7 +31,7 @@ public class Player {
 
     /** Returns the answer to a message, or null for a message that does not come from the match's referee. */
     static String answer(String message, String receiver, InetAddress sender) {
-        String[] words = message.strip().split("[\\s()]+", 4); // an empty text, the keyword, the id, the rest
+        String[] words = message.strip().split("[\\s()]+", 4); // an empty string, the keyword, the id, the rest
         if (words[1].equalsIgnoreCase("INFO")) return "available"; // YOURS: perhaps `busy` during a match
         String key = words[2] + " " + receiver;
         Match match = matches.get(key);

@@ -39,7 +39,7 @@ def tokens(text):
 
 
 def read(text):
-    """Parses KIF. An atom becomes a string, and a list becomes a tuple. Capitals become lower case."""
+    """Parses KIF. An atom becomes a string, and a list becomes a tuple. Upper-case letters become lower case."""
     stack = [[]]
     for token in tokens(text.lower()):
         if token == "(":
@@ -55,7 +55,7 @@ def read(text):
 
 
 def read_message(text):
-    """Parses a message. Capitals are kept only in the id of the match, which follows the keyword."""
+    """Parses a message. Upper-case letters are kept only in the id of the match, which follows the keyword."""
     message = read(text)[0]
     return (message[0], tokens(text)[2], *message[2:]) if isinstance(message, tuple) and len(message) > 1 else message
 

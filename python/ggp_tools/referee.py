@@ -42,7 +42,7 @@ class BadRules(Exception):
 
 
 class Unchecked(Exception):
-    """The referee gave no verdict, because it ran out of a resource or was killed."""
+    """The referee gave no verdict, because it ran out of a resource such as memory, or was killed."""
 
 
 def find_program(given: str | None) -> str:
@@ -169,7 +169,7 @@ class Referee:
         if last.startswith(TOO_LONG):
             raise BadRules(last.removeprefix(f"{BAD_RULES}: "))
         if last == BAD_RULES:
-            # The second-to-last line has the place and the reason.
+            # The second-to-last line gives the place and the reason.
             raise BadRules(message_lines(run.stderr)[-2:][0].removeprefix("ggp_manager: "))
         if run.returncode:
             raise unchecked(run, name or rules_path)

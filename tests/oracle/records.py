@@ -72,7 +72,7 @@ def is_name(value):
 
 
 def is_expression(text):
-    """Returns whether the text is the canonical text of one expression without capitals, nested at most 64 lists deep."""
+    """Returns whether the text is the canonical text of one expression without upper-case letters, nested at most 64 lists deep."""
     level = 0
     for place, token in enumerate(re.findall(r"[()]|[^() ]+|.", text)):
         if place > 0 and level == 0:

@@ -49,7 +49,7 @@ REACHED = """
 
 
 class Browser:
-    """A browser, until it is closed. `said` has the logged texts, the errors and the requests of its pages."""
+    """A browser, until it is closed. `said` lists the logged texts, the errors and the requests of its pages."""
 
     def __init__(self) -> None:
         self.room = tempfile.TemporaryDirectory(ignore_cleanup_errors=True)

@@ -31,7 +31,7 @@ BEGAN, ENDED = 1_767_323_045_000, 1_767_323_047_500
 
 
 class Missed(str):
-    """The text that a log has instead of an answer: the error, and the reason in parentheses."""
+    """The text that a log contains instead of an answer: the error, and the reason in parentheses."""
 
 
 SILENT = Missed("TO (no answer in time: nothing received)")

@@ -1,4 +1,5 @@
-"""Checks that a call log has exactly the calls that the referee of one match makes, and that a match log has the same messages and answers."""
+"""Checks that a call log contains exactly the calls that the referee of one match makes, and that a match log contains the same messages and
+answers."""
 
 import dataclasses
 import io
@@ -239,11 +240,11 @@ class Accounts(unittest.TestCase):
             fault = self.fault(*before, *[hold] * (most + clock + 1), *after)
             self.assertRegex(fault, f"line {at + most + clock + 1} of its call log is not a call that a referee would make at this point: . next cup-001 . hold")
 
-        # With one role, fewer replies wake it.
+        # A single role is not woken by other roles, so fewer `hold` replies are allowed.
         alone = [b"0\topen cup-001 0 7 6 ann\topened\n", b"1\tnext cup-001 0\towe 0 start\n", b"1\tsubmit cup-001 0 0 ready\ttaken\n"]
         found = [self.fault(*alone, *[b"1\tnext cup-001 0\thold 0\n"] * (MOST_HOLDS + 7 + count), b"1\tnext cup-001 0\tover\n") for count in (2, 3)]
         self.assertEqual([fault is None for fault in found], [True, False])
-        # In each round it may wait again.
+        # A role may get the maximum number of `hold` replies in each round.
         rounds = (CALL_LINES[1:4], [b"1\tnext cup-001 0\thold 0\n"] * (most + 7), CALL_LINES[6:11], [b"1\tnext cup-001 0\thold 1\n"] * (most + 6), CALL_LINES[11:])
         self.assertIsNone(self.fault(head, *sum(rounds, [])))
 

@@ -226,7 +226,7 @@ def test_a_process_whose_time_is_over_is_ended():
 
 
 def test_what_a_process_has_said_in_time_is_read_late(monkeypatch):
-    """On a busy computer, the time may be over before this process has read the output that has arrived."""
+    """On a busy computer, the time may run out before this process has read the output that has arrived."""
     monkeypatch.setattr(children, "SOON", 60)
     done = asyncio.run(run(["echo", "one"], seconds=0))
     assert (done.status, done.output) == (0, b"one\n")

@@ -101,7 +101,7 @@ class Growth(unittest.TestCase):
         before = competition(3, form='kind = "schedule"\nlines = ["two p0 p1", "two p1 p2", "two p2 p0"]')
         players = before.players[0], replace(before.players[1], withdrawn="why"), before.players[2]
         history = History(((3, before),), (Again("cup-004", "cup-001", "x"),))
-        # A match that is replaced stays so. Its rematch has a result too.
+        # A replaced match stays replaced. Its rematch also has a result.
         for results, out in (("keep", ["cup-002"]), ("void", ["cup-002", "cup-004"])):
             after = replace(before, players=players, withdrawn_results=results)
             found = grown(history, after, ROLES, lambda match: match.id in ("cup-001", "cup-004") or None).matches

@@ -95,7 +95,7 @@ class Seats(unittest.TestCase):
         self.seat.page_opens(1)
 
     def ask(self, text):
-        """Lets the seat answer a message in another thread, as the server does with messages of the referee."""
+        """Lets the seat answer a message in another thread, as the server does with messages from the referee."""
         thread = threading.Thread(target=lambda: self.answers.append(self.seat.answer(text)))
         thread.start()
         return thread
@@ -219,7 +219,7 @@ class Seats(unittest.TestCase):
         self.assertEqual((self.answers, self.seat.answer("(PLAY M NIL)")), (["busy"], "noop"))
 
     def late(self, name):
-        """Makes a call of the game of this match wait. Returns the events that it has begun, and that it may end."""
+        """Makes a call of this match's game wait. Returns two events: the call has begun, and the call may end."""
         is_begun, may_end, call = threading.Event(), threading.Event(), getattr(self.seat.shown, name)
         self.addCleanup(may_end.set)
 
@@ -361,7 +361,7 @@ class Pages(unittest.TestCase):
         return line.getresponse()
 
     def post(self, message, source="127.0.0.1"):
-        """Returns the answer to a message of a referee."""
+        """Returns the answer to a message from a referee."""
         return self.request("POST", "/", message, source=source).read()
 
     def of_page(self, name=""):

@@ -33,7 +33,7 @@ class InBrowser(unittest.TestCase):
         self.page = self.browser.page(f"http://127.0.0.1:{server.server_address[1]}{server.page}")
 
     def ask(self, text: str) -> threading.Thread:
-        """Lets the seat answer a message in another thread, as the server does with messages of the referee."""
+        """Lets the seat answer a message in another thread, as the server does with messages from the referee."""
         thread = threading.Thread(target=lambda: self.answers.append(self.seat.answer(text, sender=self.sender)), daemon=True)
         thread.start()
         return thread

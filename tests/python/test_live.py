@@ -43,7 +43,7 @@ def setUpModule():
 
 
 def drawn(board):
-    """Returns the last state of a match, as pages have it."""
+    """Returns the last state of a match, as pages show it."""
     return state_html(board.position.states, ROLES, named_in(board.rules.read_bytes(), False), [board.trouble])
 
 
@@ -65,7 +65,7 @@ class InRoom(unittest.TestCase):
         reader.advance(NEVER)
 
     def play(self, number, moves, answers, roles=(0, 1)):
-        """Returns the lines of a turn. The PLAY messages of the turn have the moves of the previous turn."""
+        """Returns the lines of a turn. The PLAY messages of the turn contain the moves of the previous turn."""
         return "".join(line(self.match, role, number, f"(PLAY {self.match.id} {moves})", answers[role]) for role in roles)
 
 
@@ -318,7 +318,7 @@ class Lines(InRoom):
         for minute, match in enumerate(reversed(self.plan.matches)):
             self.plan.folder.record(match.id).write_text(json.dumps(record_of(match, [["noop", "noop"]], [["CE", ""]], [0, 100])))
             times = [minute * 60_000, (59 - minute if minute % 2 == 0 else 59) * 60_000]
-            # One log has the turn, and another log has only the end.
+            # In every second match, the log contains the turn. The other logs contain only the end.
             said = line(match, 0, 2, f"(PLAY {match.id} NIL)", Missed("CE (no connection)"), 0, times[0]) if minute % 2 else ""
             stop = line(match, 0, 3, f"(STOP {match.id} NIL)", "done", 0, times[1])
             self.plan.folder.log(match.id).write_text(opened(match, times[0]) + said + stop)
@@ -451,7 +451,7 @@ class States(InRoom):
         self.assertEqual((self.heap(board), board.position.phase), ("(heap 0)", "stopping"))
 
     def test_a_label_looks_the_same_in_each_state(self):
-        # At first there is only one kind of label, whose meaning is open.
+        # In the first state, all cells have the same label, and nothing shows yet what it means.
         board = self.board(rules=(GAMES / "tictactoe.kif").read_bytes())
         self.assertEqual(re.findall("<i class=\"ground\"[^>]*>(.*?)</i>", drawn(board)), ["\u00b7"] * 9)
 

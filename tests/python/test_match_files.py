@@ -376,7 +376,7 @@ RECORD = (
 
 
 class Lengths(Looked):
-    """Records and call logs at the limits of their lengths."""
+    """Records and call logs whose lengths are at the limits."""
 
     def faults(self, record):
         self.folder.record("cup-0").write_bytes(record)

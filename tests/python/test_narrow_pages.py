@@ -51,7 +51,7 @@ class Long(Served):
         record = record_of(match, [["(take 1)", "noop"]] * turns, [["", ""]] * turns, [0, 100])
         end(self.plan, match, record | {"states": [[f"(heap {turn})", f"(step {turn})"] for turn in range(turns + 1)]})
         self.look()
-        # A part has states of at most five terms.
+        # The states in one part of the page have at most five terms in total.
         self.enterContext(patch.object(show, "MOST_OF_PART", 5))
         shown = []
         for part in ("", "~1", "~2", "~3", "~4"):

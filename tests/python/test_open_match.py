@@ -34,7 +34,7 @@ OPENED = '{"event":"open","match":"cup-001","time":1}\n'
 
 
 class Judge(Referee):
-    """A referee with the verdicts of the test: a text, whether the record was reproduced, or an error."""
+    """A fake referee whose verdicts the test sets: a text, whether the record was reproduced, or an error."""
 
     verdict, is_replayed = "lawful", True
 

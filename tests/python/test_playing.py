@@ -350,7 +350,7 @@ class Before(WithMatches):
         self.plan.folder.record("cup-002").touch()
         why = raised(Refused, playing.prepare, self.playing)
         self.assertEqual(str(why), f"{records}/cup-001.json is lawful, but belongs to another match: its matchId is 'x'")
-        # Until this is corrected, no file is renamed.
+        # Until you move the record to the right place, no file is renamed.
         self.assertEqual([file.name for file in records.iterdir()], ["cup-002.json"])
 
     def test_a_record_by_which_a_later_round_was_paired_ends_it(self):
@@ -363,7 +363,7 @@ class Before(WithMatches):
         self.plan.rounds = ["the first", "the second"]
         self.looked = ({match.id: "its result" for match in self.plan.matches[3:]}, {"cup-001": "not lawful: goals"}, {})
         self.assertIn("a later round was paired by the result of cup-001, which no longer has a record that counts", str(raised(Refused, playing.prepare, self.playing)))
-        # Until this is corrected, no file is renamed, no message is sent, and no match waits.
+        # Until the record is corrected, no file is renamed, no message is sent, and no match waits.
         self.assertEqual([file.name for kind in (folder.records, folder.accounts) for file in kind.iterdir()], ["cup-001.json", "cup-002.txt"])
         self.assertEqual((room.exists(), self.aborted, list(self.playing.waiting)), (True, [], []))
 

@@ -25,7 +25,7 @@ def drawn_points(draw):
 
 
 def expected(player, points, logs):
-    """Computes the expected points of a player against the opponents in its group. `logs` has the logarithms of the strengths."""
+    """Computes the expected points of a player against the opponents in its group. `logs` contains the logarithms of the strengths."""
     met = {other: points[player, other] + points[other, player] for other in logs if (player, other) in points}
     return sum(count / (1 + math.exp(logs[other] - logs[player])) for other, count in met.items())
 

@@ -1,5 +1,5 @@
 """Competitions by rounds, in a directory: each round follows from the records of the previous one, and any other schedule is refused. The referee is
-fake, and the records have only the keys that determine a result."""
+fake, and the records contain only the keys that determine a result."""
 
 import json
 import pathlib
@@ -91,7 +91,7 @@ class ByRounds(unittest.TestCase):
         tables = tables_of(plan.competition, list(results.values()), plan.rounds)
         heads, *rows = standings_rows(tables[0])
         self.assertEqual(heads[:6], ["", "player", "matches", "points", "Buchholz", "goals"])
-        # By hand: p0 has beaten p1, p2 and p4, p1 has beaten p4 and p3, p2 has beaten p3.
+        # Computed by hand: p0 has beaten p1, p2 and p4, p1 has beaten p4 and p3, p2 has beaten p3.
         wanted = [["1", "p0", "6", "6", "10"], ["2", "p1", "6", "4", "10"], ["3", "p2", "4", "4", "8"], ["4", "p4", "4", "2", "10"], ["5", "p3", "4", "2", "8"]]
         self.assertEqual([row[:5] for row in rows], wanted)
         self.assertEqual(list(notes(tables[0]))[:3], [f"round {found.number}; bye: {found.byes[0]}" for found in plan.rounds])
@@ -124,7 +124,7 @@ class ByRounds(unittest.TestCase):
         for _ in range(2):
             results = self.play(plan, lambda match: [0, 100] if match.players < match.players[::-1] else [100, 0])
             _ = plan_next_round(plan, results) if len(plan.rounds) == 1 else None
-        # By hand: p3 and p4 have 4 points, p1 and p2 have 2, p0 has none. p3 has met p1 and p2. p4 withdraws, so p0 takes its place.
+        # Computed by hand: p3 and p4 have 4 points, p1 and p2 have 2, p0 has none. p3 has met p1 and p2. p4 withdraws, so p0 takes its place.
         plan = self.withdraw(4)
         plan_next_round(plan, results)
         self.assertEqual((self.pairs(plan)[2], rounds_left(plan)), (((("p3", "p0"), ("p1", "p2")), ()), 1))

@@ -108,7 +108,7 @@ class Rules(InArchive):
         void = next(at for at, pair in enumerate(schedule, 1) if "dan" in pair)
         self.assertIn(f"cup-{void:03} does not count: ", self.refused("again", ".", f"cup-{void:03}", "--reason", "x"))
         lines, notes = self.table()
-        # The matches against eve and dan are points of byes, and add nothing to the Buchholz score.
+        # The matches against eve and dan give points like byes, and add nothing to the Buchholz score.
         self.assertEqual(sorted(line["byes"] for line in lines.values()), [1, 2, 2])
         self.assertEqual(sum(line["points"] for line in lines.values()), 2 * 5 + 4)
         absent = "eve has withdrawn: absent in 1 whole round; the matches that it has played do not count"
@@ -202,7 +202,7 @@ class Rules(InArchive):
         for words, players, wanted in (
             (["--gauntlet", "ann", "--start", "7", "--play", "3"], players, ("gauntlet", 1, "ann", 0, 7, 3)), (["--round-robin", "2"], players, ("round_robin", 2, "", 0, 10, 5)),
             (["--swiss", "3", "--final", "2"], players, ("swiss", 3, "", 2, 10, 5)), (["--knockout", "--name", "cup"], players, ("knockout", 1, "", 0, 10, 5)),
-            # Without players, you add them to the file later.
+            # If you give no players, you add them to the file later.
             (["--gauntlet", "ann"], [], None), (["--swiss", "3", "--final", "2"], [], None), (["--gauntlet", "eve"], players, "form.one: there is no player 'eve'"),
         ):
             self.new_folder()

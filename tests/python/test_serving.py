@@ -250,7 +250,7 @@ class Pages(Served):
         for wrong, said in bad:
             with self.subTest(said=said):
                 end(self.plan, match, good | wrong)
-                # `serve` begins with it, too.
+                # `serve` also starts if the record is already there.
                 self.site = self.server.site = LiveSite(self.plan, Referee(program()), lambda: self.plan)
                 self.site.update()
                 first = self.page("/")
@@ -273,7 +273,7 @@ class Pages(Served):
             self.site.reader.update_record(self.site.reader.unread.popleft())
             self.site.next_tables = 0.0
             self.look()
-            # `serve` does not show ratings that lack some of the records.
+            # `serve` does not show ratings before all records are read.
             self.assertEqual([row[-1] for row in rows_of(parsed(self.page("/")).find(id="standings"))[1:]], ["none"] * 2)
         self.site.next_tables = 0.0
         self.look()
@@ -356,13 +356,13 @@ class Pages(Served):
         self.assertTrue(self.next_event(self.events(self.page("/").replace("?after=", "?after=old")))["reload"])
 
     def change_plan(self, matches):
-        """Has another plan with these matches."""
+        """Replaces the plan with one of these matches."""
         plan = dataclasses.replace(self.plan, matches=matches)
         self.site.read_plan = lambda: plan
         self.plan.folder.schedule.write_text("another")
 
     def assert_first(self, *words):
-        """Checks what the first page says, and that it has ratings."""
+        """Checks that the first page contains these words and shows ratings."""
         first = self.page("/")
         for word in words:
             self.assertIn(word, first)
@@ -432,7 +432,7 @@ class Pages(Served):
             self.assertIn("The directory open can't be read", self.page("/").replace("&#39;", "'"))
 
     def pages(self, paths):
-        """Returns what is at these paths, except the time of day, the versions and the visitors."""
+        """Returns the contents at these paths, except the time of day, the versions and the visitors."""
         return [re.sub('data-(now|events)="[^"]*"|"now": [0-9.]*|ggp_serve_.*', "", self.page(path)) for path in paths]
 
     def test_a_match_that_has_begun_is_not_shown_as_that_of_the_old_plan(self):
@@ -526,7 +526,7 @@ class Pages(Served):
         self.look()
         self.assertIn("0 matches are open, 0 are waiting, 6 were given up", self.page("/"))
         self.assertIn(f"because {lost.id} does not follow its description.", self.page(f"/matches/{again.id}.html"))
-        # The next run plays it.
+        # The next run plays the match that was given up.
         self.write_journal([*lines, "play 1,000 matches"])
         self.look()
         self.assertIn("0 matches are open, 6 are waiting.", self.page("/"))
@@ -604,7 +604,7 @@ class Pages(Served):
         self.plan.competition = dataclasses.replace(self.plan.competition, players=players)
         self.site = self.server.site = LiveSite(self.plan, Referee(program()), lambda: self.plan)
         turn, restart, left = self.play(match, 2, "NIL", ["(take 1)", "noop"]), f"restart {other.id} ann: process 7, port 8", f"no record {match.id}: x"
-        # The match is open, is broken off, begins again, is broken off again, and is given up.
+        # The match is open, is interrupted, begins again, is interrupted again, and is given up.
         for rows, log in (([], turn), ([restart], turn), ([restart], None), ([restart], ""), ([restart], None), ([restart, left], None)):
             shutil.rmtree(self.plan.folder.open / match.id, ignore_errors=True)
             if log is not None:

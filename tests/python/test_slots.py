@@ -73,7 +73,7 @@ class Moments(unittest.TestCase):
 
     def test_tries_in_a_row(self):
         tries = [self.missed("ann", seated, now) for seated, now in ((99, 100), (100, 101), (50, 101), (101, 102), (102, 103), (103, 104))]
-        # A match that took its slots before a try ended, or at the same moment, belongs to this try.
+        # If a match took its slots before the player's last failed try ended, or at that moment, its failure counts as part of that try.
         self.assertEqual(tries, [True, True, True, True, True, False])
         self.assertEqual((self.slots.failed["ann"], self.slots.rests_until["ann"]), (3, 104))
         self.slots.count_answer("ann")

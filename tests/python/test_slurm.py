@@ -168,7 +168,7 @@ class Slurm(InFolder):
         print("\n".join(line for line in out.splitlines() if line.startswith("lost ")), time.monotonic())
 
     def test_players_that_are_jobs_of_which_one_loses_its_node(self):
-        # An example player that listens at all addresses of its node.
+        # An example player that listens on all addresses of its node.
         example = self.folder / "player.py"
         example.write_text((TOP / "examples/players/player.py").read_text().replace('("127.0.0.1", port)', '("", port)'))
         example.chmod(0o755)

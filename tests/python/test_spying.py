@@ -82,7 +82,7 @@ class Spying(Served):
             self.assertEqual(self.all_pages(), before, text)
         self.say(self.log, lines[-1])
         after = self.all_pages()
-        # The first event of a page is the end of the round. An open page has the same data as a new one.
+        # The first event of a page is the end of the round. An open page shows the same data as a new one.
         for answer, path in zip(events, ("/", f"/matches/{self.match.id}.html")):
             self.assertNotEqual(after[path], before[path])
             told = str(self.next_event(answer))
@@ -123,8 +123,8 @@ class Spying(Served):
 
 @dataclass(frozen=True)
 class Step:
-    """A step of a match: a role answers, and events follow until the next step. `text` is the line that the log gets for the answer. If the
-    line is lost, `text` is empty. `needed` is the number of answers that the round needs. The events are: time passes, `serve` restarts, or
+    """A step of a match: a role answers, and events follow until the next step. `text` is the line that is written to the log for the answer. If the
+    line is lost, `text` is an empty string. `needed` is the number of answers that the round needs. The events are: time passes, `serve` restarts, or
     the directory is read, with or without questions to the referee."""
 
     run: int
@@ -137,7 +137,7 @@ class Step:
 
 
 ANSWER = st.sampled_from((LEGAL, LEGAL, *ILLEGAL))
-# The log has the host's time of day, which may be wrong, or no time.
+# The log gives the time of day of the host, which may be wrong, or no time.
 TIMES = st.sampled_from((None, 0, 1_000, 1_795_000_000_000, 9_000_000_000_000))
 
 
@@ -175,7 +175,7 @@ def rounds_of(draw, match, strikes):
             missed[role] = 0 if answer == LEGAL else missed[role] + 1
         rounds.append((len(playing), [said(turn + 1, f"(PLAY {match.id} x)", role, filled(answer, turn, role)) for role, answer in answers.items()]))
     if draw(st.booleans()):
-        # Some do not answer the last turn, and all are sent ABORT.
+        # Some roles do not answer the last turn, and all are sent ABORT.
         needed, lines = rounds.pop()
         rounds.append((needed, lines[: draw(st.integers(0, needed - 1))]))
         rounds.append((len(roles), [said(len(rounds) + 1, f"(ABORT {match.id})", role, "done") for role in draw(st.permutations(roles))]))

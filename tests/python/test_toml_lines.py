@@ -99,7 +99,7 @@ class TomlLines(unittest.TestCase):
                 self.assertEqual((found.line, found.key), (line, key))
 
     def test_just_so_many_dots_and_signs_are_read(self):
-        # What a comment has does not count.
+        # The characters in a comment do not count.
         self.assertEqual(len(read_toml("# .\n" + "a." * 100 + "a = 1")[1]), 2)
         text = "# =\na = [" + "1," * 149_998
         self.assertEqual(len(read_toml(text + "]")[1]), 150_000)

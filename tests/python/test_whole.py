@@ -114,8 +114,8 @@ class Whole(InFolder):
 
 
 def test_a_round_begins_for_all_players_at_once():
-    """Ann answers so late that the thread of bob already checks for the next message only every 0.8 s. If ann's next message does not wake
-    this thread, bob's message comes about 0.7 s after ann's. On a busy computer, one of the first rounds may be late."""
+    """Ann answers so late that bob's thread already checks for the next message only every 0.8 s. If ann's next message does not wake this thread,
+    bob's message comes about 0.7 s after ann's. On a busy computer, one of the first rounds may be late."""
     ann, bob = (TestPlayer(name, "good", at) for at, name in enumerate(("ann", "bob")))
     answers, came, gaps = ann.answer, [], []
 

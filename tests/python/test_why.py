@@ -162,7 +162,7 @@ class Why(InFolder):
         left.write_text(log.replace("lost", "left"))
         said = "\n".join(Explanation(plan, match).lines(["ann", "bob"]))
         self.assertIn("; 20 s for START, 30 s for each other message\n", said)
-        # What was played follows from the last run.
+        # The moves that were played follow from the last run.
         self.assertIn("turn 1: PLAY was answered `before` after 5 ms. Message 2: (PLAY", said)
         for words in ("turn 1: PLAY was answered `TO` after", "turn 2: PLAY was answered `lost` after", "turn 2: PLAY was answered `CE` after"):
             self.assertIn(words, said)

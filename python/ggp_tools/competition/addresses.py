@@ -34,7 +34,7 @@ def addresses_of(host: str, flags: int = 0) -> list[str]:
 
 
 def looked_up(hosts: Iterable[str]) -> dict[str, list[str]]:
-    """Returns the addresses of each host. A host whose lookup takes too long has none."""
+    """Returns the addresses of each host. If the lookup of a host takes too long, its list is empty."""
     addresses = {host: addresses_of(host, socket.AI_NUMERICHOST) for host in hosts}
 
     def look_up(name: str) -> None:
@@ -51,7 +51,7 @@ def looked_up(hosts: Iterable[str]) -> dict[str, list[str]]:
 
 
 def are_same(one: str, other: str) -> bool:
-    """Returns whether two texts of the form HOST:PORT lead to the same address at present. Looks up the hosts only if the ports are equal."""
+    """Returns whether two strings of the form HOST:PORT currently lead to the same address. Looks up the hosts only if the ports are equal."""
     (host, _, port), (other_host, _, other_port) = one.rpartition(":"), other.rpartition(":")
     if int(port) != int(other_port):
         return False
@@ -60,7 +60,7 @@ def are_same(one: str, other: str) -> bool:
 
 
 def refusal(place: Place) -> str:
-    """Returns the reason why the system refuses connections to `place`, or an empty text if it does not. The check sends nothing."""
+    """Returns the reason why the system refuses connections to `place`, or an empty string if it does not. The check sends nothing."""
     address = ipaddress.ip_address(place[0])
     if address.is_multicast:
         return "a multicast address accepts no connection"
@@ -79,7 +79,7 @@ def refusal(place: Place) -> str:
 
 
 def places_now(competition: Competition) -> dict[str, list[Place]]:
-    """Returns the current addresses of each player, by name. Players that the competition starts are left out: they have no address yet."""
+    """Returns the current addresses of each player, by name. Leaves out the players that the competition starts, because they have no address yet."""
     hosts = {player.name: player.address.rpartition(":") for player in competition.players if not player.command}
     addresses = looked_up(host for host, _, _ in hosts.values())
     return {name: [(address, int(port)) for address in dict.fromkeys(addresses[host])] for name, (host, _, port) in hosts.items()}

@@ -97,8 +97,8 @@ def contents(plan: Plan, referee: Referee, results: list[Result], pages: Iterabl
 
 
 def publish(plan: Plan, referee: Referee, results: list[Result], path: pathlib.Path, known: Known) -> str:
-    """Writes the archive, and returns its checksum. Publishing the same files again produces the same archive. Match pages that are up to
-    date are not made again."""
+    """Writes the archive, and returns its checksum. Publishing the same files again produces the same archive. Match pages that are up to date are
+    left as they are."""
     pages = Pages(plan, True, known).write(results)
     with written_whole(path) as file:
         files = with_sums(contents(plan, referee, results, pages, known))
@@ -192,8 +192,8 @@ def version_of(folder: pathlib.Path) -> str:
 
 
 def check_archive(path: pathlib.Path, referee: Referee) -> tuple[list[str], str]:
-    """Checks an archive. Returns its errors, as lines of printable ASCII of limited length, and, if there are none, a sentence that sums up
-    the checks."""
+    """Checks an archive. Returns its errors as lines of printable ASCII of limited length. If there are no errors, also returns a sentence that sums
+    up the checks."""
     try:
         with tempfile.TemporaryDirectory() as empty:
             try:

@@ -1,6 +1,6 @@
 """Checks call logs ("accounts") and match logs. A call log may contain only the calls that the referee of one match makes. `replay` does
-not check this, because it also accepts other calls that change nothing. The match log must have the same messages and answers as the call
-log. Only the match log has times, hosts and reasons."""
+not check this, because it also accepts other calls that change nothing. The match log must contain the same messages and answers as the call log.
+Only the match log contains times, hosts and reasons."""
 
 import io
 import itertools
@@ -27,7 +27,7 @@ ANSWER = re.compile(rb"(\d+)\t(submit|miss) ([^ \t]+) (\d+) (\d+)(?: ([^\t]*))?\
 # it. So the number of `hold` replies is less than the seconds of the clock, plus twice the number of roles, plus this number, even if the
 # computer delays the referee by ten minutes.
 MOST_HOLDS = 300
-# The history of the referee's desk has at most this many calls.
+# The history of the referee's desk contains at most this many calls.
 MOST_CALLS = 1_000_000
 # Matches any call. The group is the id of the call's match.
 MATCH = re.compile(rb"\d+\t[a-z]+ ([^ \t]+)[ \t]")
@@ -58,8 +58,8 @@ def lines_of(account: bytes) -> Iterator[bytes]:
 
 
 class Asked:
-    """The state of a match after the calls so far: for each role, the round whose answer is due, how often the role got `hold` in its current round, and
-    whether its part is over."""
+    """The state of a match after the calls so far: for each role, the round whose answer is due, how often the role got `hold` in its current round,
+    and whether the role is done with the match."""
 
     def __init__(self, opening: re.Match[bytes]) -> None:
         is_strict, self.match, start, play, players = opening.groups()
@@ -69,7 +69,7 @@ class Asked:
         self.over: set[bytes] = set()
 
     def is_of_role(self, line: bytes, match: bytes, role: bytes) -> bool:
-        """Returns whether a call comes from the role's line of the desk, before the role's part is over."""
+        """Returns whether a call comes from the role's line of the desk, before the role is done with the match."""
         return match == self.match and int(line) == int(role) + 1 and role not in self.over
 
     def may_hold(self, role: bytes, hold: bytes) -> bool:

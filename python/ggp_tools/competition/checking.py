@@ -33,7 +33,7 @@ class Checking:
 
     def __init__(self, plan: Plan, referee: Referee) -> None:
         self.plan, self.referee = plan, referee
-        # By match: the record and the call log, and then the error in them.
+        # For each match: first its record and its call log, and then the error in them.
         self.waiting: dict[Match, tuple[bytes, bytes]] = {}
         self.faults: dict[Match, str | Unchecked | None] = {}
         self.locks: dict[str, asyncio.Lock] = collections.defaultdict(asyncio.Lock)

@@ -72,7 +72,7 @@ class Done:
     seconds: float
 
     def verdict(self) -> dict:
-        """Returns the JSON object that the process printed, or an empty one."""
+        """Returns the JSON object that the process printed, or an empty object if it printed nothing."""
         return json.loads(self.output or b"{}")
 
     def message(self) -> str:
@@ -88,7 +88,7 @@ def spawned(words: list[str], *outputs: int) -> int:
 
 
 async def status_of(process: int, seconds: float | None) -> int | None:
-    """Waits until a process has ended, and returns its exit status. When its time is over, kills the process with its group and returns None. If the
+    """Waits until a process has ended, and returns its exit status. If its time runs out, kills the process with its group and returns None. If the
     caller is cancelled, kills them as well."""
     loop, has_ended, descriptor = asyncio.get_running_loop(), asyncio.Event(), -1
     try:
@@ -139,8 +139,8 @@ async def is_answered(referee: Referee, match: str, place: str, slots: asyncio.S
 
 
 async def send_aborts(referee: Referee, places: dict[str, list[str]], seconds: float | None = None) -> dict[str, list[str]]:
-    """Sends ABORT, to many players at the same time, for matches that no referee plays any more. `places` has the addresses of the players
-    by match id. Returns the players that did not answer within `seconds` (10 if None), also by match id."""
+    """Sends ABORT, to many players at the same time, for matches that no referee is playing. `places` gives the addresses of the players by match id.
+    Returns the players that did not answer within `seconds` (10 if None), also by match id."""
     slots = asyncio.Semaphore(MOST_ABORTS)
     sent = {(match, place): asyncio.create_task(is_answered(referee, match, place, slots)) for match in places for place in places[match]}
     if sent:

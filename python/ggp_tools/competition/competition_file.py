@@ -1,4 +1,4 @@
-"""Reads competition.toml: the games, the players and the form. Reports each mistake with its line and key."""
+"""Reads competition.toml: the games, the players and the form of the competition. Reports each mistake with its line and key."""
 
 import functools
 import re
@@ -79,7 +79,7 @@ def mistake_lines(path: object, mistakes: Sequence[Mistake]) -> str:
 
 @dataclass(frozen=True)
 class Text:
-    """A text in quotes, with its line in the file."""
+    """A quoted string, with its line in the file."""
 
     text: str
     line: int
@@ -124,7 +124,7 @@ class Section:
         self.mistake(key, f"expected {what}, found {spelled(found)}", line)
 
     def read(self, kind: type, **given: object) -> Any:
-        """Returns an object of the class `kind`. `given` has the values of some fields. The other fields are read from the keys of this
+        """Returns an object of the class `kind`. `given` contains the values of some fields. The other fields are read from the keys of this
         table."""
         return kind(**{of.name: of.metadata["read"](self, of.name) for of in fields(kind) if of.name not in given and "read" in of.metadata}, **given)
 
@@ -182,7 +182,7 @@ class Section:
         return self.text(key, None, f"a name of 1 to {longest} letters, digits, `-`, `_` and `.`{more}", form.fullmatch)
 
     def reason(self, key: str) -> str | None:
-        """Returns a reason. For `true`, the reason is empty. For `false`, or if the key is missing, returns None."""
+        """Returns the reason that the key gives. For `true`, the reason is empty. For `false`, or if the key is missing, returns None."""
         reason = self.table.get(key, False)
         if type(reason) is bool:
             return "" if reason else None
@@ -268,7 +268,7 @@ def read_by(read: Callable, *limits: object, key: str = "", **more: object) -> A
 
 
 def line_of(key: str = "") -> Any:
-    """Returns a dataclass field that has the line of a key, or the line of the table if no key is given."""
+    """Returns a dataclass field that holds the line of a key, or the line of the table if no key is given."""
     return field(metadata={"read": lambda section, _: section.line(key), "is_line": True})
 
 
@@ -351,8 +351,8 @@ class Faults:
 
 @dataclass(frozen=True)
 class Form:
-    """The pairing: a round robin, a gauntlet of one player against all others, a schedule where each line has a game and its players, a
-    Swiss competition, or a knockout. After the rounds of a Swiss competition, the `final` best players may play a knockout."""
+    """The pairing: a round robin, a gauntlet of one player against all others, a schedule where each line lists a game and its players, a Swiss
+    competition, or a knockout. After the rounds of a Swiss competition, the `final` best players may play a knockout."""
 
     kind: str
     rounds: int
@@ -414,7 +414,7 @@ def refuse_twice(sections: list[Section], key: str) -> None:
 
 
 def games_of(root: Section, clocks: dict[str, int | None]) -> tuple[Game, ...]:
-    """Returns the games. A game without a clock gets the one in `clocks`."""
+    """Returns the games. A game without a clock gets the clock in `clocks`."""
     games, sections = [], root.sections("games", MOST_GAMES)
     for section in sections:
         section.refuse_others(keys_of(Game))

@@ -17,12 +17,11 @@ if TYPE_CHECKING:
     from ggp_tools.competition.competition_file import Game
 
 UNFINISHED = ".unfinished-"
-# The file in the directory of an open match that names the players. If no referee plays the match any more, these players must be sent
-# ABORT.
+# The file in the directory of an open match that names the players. If no referee is playing the match, these players must be sent ABORT.
 PLAYERS = "players"
 # The stages of an open match. The stage is the name of an empty file in the match's directory.
 STAGES = ASKING, PLAYING, CHECKING = "asking", "playing", "checking"
-# The limit of open files. It suffices for the maximum number of matches at the same time, and for the maximum number of connections.
+# The limit on open files. It suffices for the maximum number of matches at the same time, and for the maximum number of connections.
 DESCRIPTORS = 16_384
 # The maximum size of a plan's file that is read as a whole.
 MOST_OF_PLANNED = 64 << 20
@@ -39,7 +38,7 @@ class Refused(Exception):
 
 
 def allow_files() -> int:
-    """Raises the limit of open files to DESCRIPTORS, or as far as the system allows. Returns the new limit."""
+    """Raises the limit on open files to DESCRIPTORS, or as far as the system allows. Returns the new limit."""
     soft, hard = resource.getrlimit(resource.RLIMIT_NOFILE)
     most = max(soft, min(hard, DESCRIPTORS))
     resource.setrlimit(resource.RLIMIT_NOFILE, (most, hard))
@@ -179,7 +178,7 @@ class Folder:
         self.rule_sums, self.description_sums = self.rules / "SHA256SUMS", self.rules / "DESCRIPTIONS.sha256"
         self.records, self.accounts, self.logs = (self.path / name for name in ("records", "accounts", "logs"))
         self.matches, self.pages = self.path / "matches.jsonl", self.path / "pages"
-        # The journal has the actions of `play` with their times. The directory `players` has the logs of the players that `play` starts.
+        # The journal lists the actions of `play` with their times. The directory `players` contains the logs of the players that `play` starts.
         self.journal, self.players = self.path / "play.log", self.path / "players"
 
     def rules_of(self, game: str) -> pathlib.Path:
@@ -190,7 +189,7 @@ class Folder:
         return self.rules / f"{game}.players"
 
     def rule_files(self, game: "Game") -> list[pathlib.Path]:
-        """Returns the files that `plan` writes for a game: its rules and, if players get other rules, these."""
+        """Returns the files that `plan` writes for a game: its rules and, if players get other rules, those rules too."""
         return [self.rules_of(game.name), *([self.player_rules_of(game.name)] if game.tells_variables() else [])]
 
     def description(self, game: "Game") -> pathlib.Path:

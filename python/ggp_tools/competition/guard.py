@@ -1,7 +1,7 @@
 """Ends the programs that `play` runs when `play` has ended, even if `play` was killed. The guard needs only Python's standard library.
 
-Each program that `play` runs has a mark in its environment, and passes this mark on to the programs that it starts. The standard input of
-the guard ends as soon as `play` has ended, and the programs that `play` was starting at that moment have begun."""
+Each program that `play` runs has a mark in its environment, and passes this mark on to the programs that it starts. The standard input of the guard
+ends once `play` has ended and the programs that it was starting at that moment have begun."""
 
 import contextlib
 import os
@@ -40,7 +40,7 @@ def end(process: int, seconds: float) -> None:
 
 
 def end_marked(value: str) -> None:
-    """Kills the processes whose mark is `value`, and all processes that these processes start meanwhile."""
+    """Kills the processes whose mark is `value`, and all processes that these processes start in the meantime."""
     until = time.monotonic() + END_SECONDS
     while (processes := marked(value)) and (left := until - time.monotonic()) > 0:
         for process in processes:

@@ -1,5 +1,5 @@
-"""Reads the history of a competition from its directory. The directory `earlier` has the earlier versions of competition.toml. Each one is named
-after the number of matches that were planned when the next version replaced it. `again.tsv` has the rematches, with the reasons."""
+"""Reads the history of a competition from its directory. The directory `earlier` contains the earlier versions of competition.toml. Each one is named
+after the number of matches that were planned when the next version replaced it. `again.tsv` lists the rematches with their reasons."""
 
 import csv
 import io
@@ -63,8 +63,8 @@ def seeded(competition: Competition, path: Path) -> Competition:
 
 
 def earlier_files(folder: Folder, *new: int) -> list[Path]:
-    """Returns the earlier versions of competition.toml, the oldest first. Refuses too many files, or too many bytes in total. `new` has the
-    sizes of the versions that will be added."""
+    """Returns the earlier versions of competition.toml, the oldest first. Refuses too many files, or too many bytes in total. `new` gives the sizes
+    of the versions that will be added."""
     files = [file for file in folder.earlier.iterdir() if not file.name.startswith(UNFINISHED)] if folder.earlier.is_dir() else []
     for file in files:
         if not EARLIER.fullmatch(file.name):

@@ -203,8 +203,8 @@ class Server:
     # ---- requests
 
     def is_open_to(self, host: str) -> bool:
-        """Returns whether a browser may use this name for the server. If the server listens at a loopback address, only known names are
-        allowed, because the name of another site may lead to this address."""
+        """Returns whether a browser may use this name for the server. If the server listens on a loopback address, only known names are allowed,
+        because the name of another site may lead to this address."""
         return not host or client_of(self.address) != THIS_COMPUTER or any(is_own_name(host, name) for name in self.names)
 
     async def answer(self, request: web.BaseRequest) -> web.StreamResponse:

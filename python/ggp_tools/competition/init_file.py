@@ -11,7 +11,7 @@ from ggp_tools.competition.files import Folder, Refused, write_whole
 # This directory exists in the repository and in an archive of the program.
 PARENTS = pathlib.Path(__file__).resolve().parents
 EXAMPLES = next((place for parent in PARENTS if (place := parent / "examples/games").is_dir()), pathlib.Path("examples/games"))
-# The options for the forms. Each has the name of its argument, and its help.
+# The options for the forms of a competition. Each is listed with the name of its argument and its help text.
 FORMS = {
     "round-robin": ("ROUNDS", "each pair of players meets ROUNDS times, each time in both orders of the roles"),
     "swiss": ("ROUNDS", "a Swiss competition of this many rounds"),
@@ -102,7 +102,7 @@ def words(text: str | None) -> list[str]:
 
 
 def write_first_file(asked: argparse.Namespace) -> pathlib.Path:
-    """Writes the file, and returns its path. Refuses everything in it that `plan` would refuse, except that there may be no players."""
+    """Writes the file, and returns its path. Refuses a file that `plan` would refuse, except that the file need not list any players."""
     folder = Folder(asked.folder)
     if folder.competition.exists():
         raise Refused(f"{folder.competition} already exists")

@@ -50,7 +50,8 @@ class Job:
     ) -> None:
         self.take_output, self.take_lines, self.queue_seconds, self.end_seconds = take_output, take_lines, queue_seconds, end_seconds
         self.runs, self.has_player, self.process, self.is_remote = asyncio.Event(), asyncio.Event(), None, False
-        # What the job reports: the node, the process and the address of a player, and the exit status. Then the reason why the job was given up.
+        # Reported by the job: the node, the process and the address of a player, and the exit status. The last attribute is the reason why the job
+        # was given up.
         self.node, self.player, self.status, self.why = "", "", None, ""
         # Whether the job has its task, and whether the task may continue after the local process of the job has ended.
         self.has_begun, self.goes_on = False, False

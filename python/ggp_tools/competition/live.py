@@ -1,7 +1,7 @@
 """Reads the state of the matches from the directory of a competition: which are open, whose answers they wait for, and which are over. It writes
 nothing, and starts only the referee's desk.
 
-The players of an open match can read the pages too. So the pages show only what follows from finished rounds and from the clock of this computer,
+The players of an open match can read the pages too. So the pages show only the facts that follow from finished rounds and from this computer's clock,
 with one exception: in the second half of the clock of an open round, they also name players that have not answered. A round is START, a turn, or the
 end. It is finished once all of its roles have answered or were replaced."""
 
@@ -43,7 +43,8 @@ LISTS = 5
 # The board of a match stays for this many seconds after its end.
 STAYS = 60
 FAULT = "these pages may show wrong data for this match because of an error in ggp_competition: {!r}"
-# The rows of `play.log` about a player that was restarted, a match that was given up, a game whose waiting matches were, and a run that began.
+# The rows of `play.log` about a player that was restarted, a match that was given up, a game whose waiting matches were given up, and a run that
+# began.
 RESTARTED = re.compile(rf"{MOMENT} restart (\S+) (\S+): .*\n")
 GIVEN_UP = re.compile(rf"{MOMENT} (?:no record|missing) (\S+): (?!{NOT_BEGUN}\n)(.*)\n")
 STOPPED = re.compile(rf"{MOMENT} stopped (\S+), because (\S+) does not follow its description; .*\n")
@@ -59,7 +60,7 @@ WHOLE_PATH = re.compile(r"(?<![\w./-])/(?:[^\s/]+/)*(?=[^\s/])")
 Value = TypeVar("Value")
 
 
-# The number, the size and the time of a file. The identity changes if the file is replaced or written again.
+# The inode number, the size and the time of a file. The identity changes if the file is replaced or written again.
 Identity = tuple[int, int, int]
 # The identity of a missing file.
 NOWHERE: Identity = (0, 0, 0)
@@ -87,13 +88,13 @@ class Snapshot(NamedTuple):
 
 
 class Delay:
-    """Remembers the directory, and returns it as it was this many seconds ago. This depends on the clock of this computer, because the times of files
-    may be wrong."""
+    """Remembers the directory, and returns it as it was this many seconds ago. This depends on this computer's clock, because the times of files may
+    be wrong."""
 
     def __init__(self, seconds: float = 0.0) -> None:
         self.seconds = seconds
         self.snapshots: deque[Snapshot] = deque()
-        # Other values, each with the time since which it is unchanged.
+        # Other values, each with the time of its last change.
         self.values: dict[str, tuple[object, float]] = {}
         self.is_new = True
         # The matches of plans that are not shown yet. Their files are remembered from now on.
@@ -148,7 +149,7 @@ class LiveMatch:
 
     def __post_init__(self) -> None:
         self.runs = Runs()
-        # The messages of a run whose beginning the log lacks, until the START of the run is finished.
+        # The messages of a run whose beginning is missing from the log, until the START of the run is finished.
         self.coming: list[Message] | None = None
         self.forget()
 
@@ -176,7 +177,7 @@ class LiveMatch:
         return None if self.tail.is_behind or self.board.is_known_further() else self.turn()
 
     def is_over(self) -> bool:
-        """Returns whether all have answered STOP or ABORT."""
+        """Returns whether all roles have answered STOP or ABORT."""
         return len(self.ends) == len(self.match.players)
 
     def is_ending(self) -> bool:
@@ -270,8 +271,8 @@ class LiveMatch:
 
 @dataclass
 class News:
-    """What a row of the journal says about players, until it may be shown. `rounds` has the matches of the players that were open when the row was
-    read, each with its open round, or None until that is known."""
+    """What a row of the journal says about players, until it may be shown. `rounds` lists the players' matches that were open when the row was read,
+    each with its open round, or with None until the round is known."""
 
     show: Callable[[], None]
     rounds: dict[str, int | None]
@@ -324,18 +325,19 @@ def of_names(values: dict[str, Value], names: Iterable[str]) -> dict[str, Value]
 
 
 class Reader:
-    """The matches as the directory of a competition has them or, with a delay, as it had them that many seconds ago. `version` counts the changes of
-    open matches, and `results_version` those of results."""
+    """The matches as the directory of a competition shows them now or, with a delay, as it showed them that many seconds ago. `version` counts the
+    changes to open matches, and `results_version` counts the changes to results."""
 
     def __init__(self, plan: Plan, referee: Referee, delay: Delay | None = None, before: "Reader | None" = None) -> None:
         self.plan, self.referee, self.delay = plan, referee, delay or Delay()
         # These matches, and those that are open, are in the schedule's order.
         self.known = {match.id: match for match in plan.matches}
         self.open: dict[str, LiveMatch] = {}
-        # The open matches that the plan does not have.
+        # The open matches that are not in the plan.
         self.unknown: set[str] = set()
         self.results: dict[str, Result] = {}
-        # What the pages show of the matches with results. An entry stays when its result is removed, because a page may still list the match.
+        # The data that the pages show about the matches with results. An entry stays when its result is removed, because a page may still list the
+        # match.
         self.over: dict[str, Ended] = {}
         # The matches that were open and have no result yet. Then the matches whose result has just arrived, with the clock's time and the last
         # states.
@@ -418,7 +420,7 @@ class Reader:
         return {**self.known, **self.delay.coming} if self.delay.coming else self.known
 
     def players_of(self, name: str) -> Collection[str]:
-        """Returns the players of a match, or all players if no plan has the match, because the new plan can't be read."""
+        """Returns the players of a match, or all players if the match is in no plan, because the new plan can't be read."""
         match = self.known.get(name) or self.delay.coming.get(name)
         return match.players if match else [player.name for player in self.plan.competition.players]
 
@@ -452,7 +454,7 @@ class Reader:
         return " ".join(f"The directory {name} can't be read ({why}), so these pages may be behind." for name, why in self.unlisted.items())
 
     def update_open(self, matches: dict[str, OpenFiles]) -> list[str]:
-        """Reads the logs of the open matches. Returns those that are not open any more."""
+        """Reads the logs of the open matches. Returns those that are no longer open."""
         before = self.open
         self.open = {name: before.get(name) or self.begun(self.known[name]) for name in matches if name not in self.results}
         gone = [name for name in before if name not in self.open]
@@ -522,7 +524,7 @@ class Reader:
         self.news = [news for news in self.news if news.rounds]
 
     def is_open(self, name: str, at: int | None) -> bool:
-        """Returns whether a round of a match may be open. The round of a match that was broken off counts as open until the match has progressed, is
+        """Returns whether a round of a match may be open. The round of a match that was interrupted counts as open until the match has progressed, is
         over, or was given up."""
         match = self.open.get(name)
         if match:
@@ -581,7 +583,8 @@ class Reader:
         return identity_of(folder.record(name)), identity_of(folder.log(name)) if self.delay.seconds else NOWHERE
 
     def must_be_shown(self, name: str) -> None:
-        """Raises `NoRecord` if other files have replaced those of the result that is shown. The delay applies to them as to new files."""
+        """Raises `NoRecord` if other files have replaced the files of the result that is shown. The delay applies to replaced files as well as to new
+        ones."""
         if self.delay.seconds and self.files_of(name) != self.identities.get(name):
             raise NoRecord("it was replaced")
 
@@ -635,7 +638,7 @@ class Reader:
         self.over[match.id] = ended_match(result, record, run, is_cut)
         self.note_replaced(match, record, run, files[0][2] / 1e9)
         self.forget(match.id)
-        # If it was replaced meanwhile, the next update reads it again.
+        # If the record was replaced in the meantime, the next update reads it again.
         self.results[match.id], self.identities[match.id] = result, files
         self.results_version += 1
         # The directory of the open match may still be there for a moment.
@@ -662,8 +665,8 @@ class Reader:
         self.replaced = newest([*(move for move in self.replaced if move.match.id != match.id), *moves])
 
     def last_replaced(self) -> list[tuple[Replaced, int]]:
-        """Returns the last replaced moves, the newest first. The oldest one of each match has the number of earlier ones of this match that are left
-        out; the others have 0."""
+        """Returns the last replaced moves, the newest first. The oldest listed move of each match gives the number of earlier replaced moves of this
+        match that are left out; the other moves give 0."""
         over = (move for move in self.replaced if move.match.id in self.results)
         moves = newest([*over, *(move for live_match in self.open.values() for move in live_match.replaced)])[::-1]
         oldest = {move.match.id: move for move in moves}

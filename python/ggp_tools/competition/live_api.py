@@ -1,6 +1,6 @@
-"""The data that `serve` sends to other programs: the matches as JSON, events about changes, and numbers for Prometheus. About an open match, it says
-no more than the pages: what follows from finished rounds and, in the second half of a clock, which players have not answered. docs/SERVING.md has the
-keys."""
+"""The data that `serve` sends to other programs: the matches as JSON, events about changes, and numbers for Prometheus. It says no more about an open
+match than the pages do: the facts that follow from finished rounds and, in the second half of a clock, which players have not answered.
+docs/SERVING.md lists the keys."""
 
 import json
 import re

@@ -27,7 +27,7 @@ Answers = dict[int, Message]
 
 @dataclass(frozen=True)
 class Turn:
-    """A turn, counted from 1: each role's move and error, and the role whose turn it was, if the state has it."""
+    """A turn, counted from 1: each role's move and error, and the role whose turn it was, if the state names it."""
 
     number: int
     moves: tuple[str, ...]
@@ -47,7 +47,7 @@ def round_of(phase: str, moves: list) -> int:
 @dataclass(frozen=True)
 class Position:
     """How far a match has got: the phase, the roles that owe an answer in the open round, and the recorded states, moves and errors. It keeps only
-    the first and the last states, but `movers` has the role whose turn it is in every state."""
+    the first and the last states, but `movers` lists the role whose turn it is for every state."""
 
     phase: str = "starting"
     owing: frozenset[int] = frozenset()
@@ -57,7 +57,7 @@ class Position:
     movers: list[int | None] = field(default_factory=list)
 
     def mover(self) -> int | None:
-        """Returns the role whose turn it is in the open round, if the state has it."""
+        """Returns the role whose turn it is in the open round, if the state names it."""
         mover = self.movers[-1] if self.movers else None
         return mover if mover in self.owing and self.phase == "playing" else None
 
@@ -86,7 +86,7 @@ class LiveBoard:
     def begin(self) -> None:
         """Sets the board to the first state, both at creation and whenever the match is restarted on another host."""
         self.position, self.trouble, self.is_stuck = Position(owing=frozenset(range(len(self.match.players)))), "", False
-        # The answers that are not recorded yet, by round and role. Then why players did not answer, by turn and role.
+        # The answers that are not recorded yet, by round and role, and the reasons why players did not answer, by turn and role.
         self.answers: dict[int, Answers] = {}
         self.reasons: dict[tuple[int, int], str] = {}
         self.version += 1
@@ -153,7 +153,7 @@ class LiveBoard:
         for turn, recorded in enumerate(record["errors"][len(known) :], len(known) + 1):
             answers = self.answers.get(turn, {})
             self.reasons |= {(turn, role): message.came() for role, message in answers.items() if message.error}
-            # If the referee lacks a resource, the record has a broken connection.
+            # If the referee lacked a resource, for example memory, the record reports a broken connection instead.
             known = [*known, [SHORTAGE if role in answers and answers[role].error == SHORTAGE else error for role, error in enumerate(recorded)]]
         now = round_of(record["phase"], record["moves"])
         self.answers = {at: answers for at, answers in self.answers.items() if at >= now}

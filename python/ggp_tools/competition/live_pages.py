@@ -110,7 +110,7 @@ def now_part(reader: Reader, waiting: int, given_up: int) -> Part:
 
 
 def replaced_part(replaced: list[tuple[Replaced, int]]) -> Part:
-    """Returns the last replaced moves, the newest first. For each match, it says how many earlier ones are not listed."""
+    """Returns the last replaced moves, the newest first. For each match, the list says how many earlier ones are left out."""
     rows = [(move, before, reason_of(move.error), move.error.partition(" ")[2]) for move, before in replaced]
     return live_part("replaced", rows=rows, intro=REPLACED)
 
@@ -164,6 +164,6 @@ def open_match_parts(live_match: LiveMatch, state: "Markup", head: Part) -> Page
 
 
 def waiting_match_parts(fault: str, given_up: str, why_not: str, head: Part) -> PageParts:
-    """Returns the page of a match that is neither open nor over. It says why the match is not played, if it is not."""
+    """Returns the page of a match that is neither open nor over. If the match will not be played, the page says why."""
     text = f"It is not played: {why_not}." if why_not else f"Its record does not count: {fault}" if fault else f"It was given up: {given_up}." if given_up else "It has not begun."
     return [head, live_part("now", "waiting", text=text)]

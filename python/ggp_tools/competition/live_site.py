@@ -75,7 +75,7 @@ def reason_for_visitors(folder: Folder, why: Exception) -> str:
 
 @dataclass
 class OpenPage:
-    """A page that somebody has open, or had open a moment ago, or the data of the event stream. It was made from the data in `stamp`. `events` has
+    """A page that somebody has open, or had open a moment ago, or the data of the event stream. It was made from the data in `stamp`. `events` lists
     the last changes, each with the version of the page that it leads to. This tuple is replaced as a whole, so that another thread may read it."""
 
     title: str
@@ -107,7 +107,7 @@ class Cache(typing.Generic[Value]):
 
     def __init__(self, most: int, size_of: Callable[[Value], int]) -> None:
         self.most, self.size_of, self.lock = most, size_of, threading.Lock()
-        # Each value has the data that it was made from.
+        # Each value, with the data that it was made from.
         self.values: OrderedDict[str, tuple[object, Value]] = OrderedDict()
 
     def get(self, name: str, made_of: object, make: Callable[[], Value]) -> Value:
@@ -170,8 +170,8 @@ class LiveSite:
         # No two versions of pages are equal, not even in two runs.
         self.versions = itertools.count(time.time_ns())
         self.pages: OrderedDict[str, OpenPage] = OrderedDict()
-        # `plan_stamp` is the stamp of the plan's files before they were last read. `plans` has the plans that are not shown yet, each with its time.
-        # If the files can't be read, `plans` has the reason instead of a plan.
+        # `plan_stamp` is the stamp of the plan's files before they were last read. `plans` contains the plans that are not shown yet, each with its
+        # time. If the files can't be read, `plans` contains the reason instead of a plan.
         self.plan_stamp, shown = plan_stamp(plan.folder) if stamp is None else stamp, without_new_rounds(plan, delay)
         self.plans: list[tuple[float, Plan | str]] = [] if shown is plan else [(live.clock(), plan)]
         self.trouble = self.fault = ""
@@ -181,7 +181,7 @@ class LiveSite:
 
     def begin(self, reader: Reader) -> None:
         """Begins to show the plan of a reader."""
-        # `newest` reads the directory. After a change of the plan, it is not shown before it has read all records.
+        # `newest` reads the directory. After a change of the plan, `newest` is shown only once it has read all records.
         self.plan, self.reader, self.newest, self.fault = reader.plan, reader, reader, ""
         for page in self.pages.values():
             page.is_final = True
@@ -240,8 +240,8 @@ class LiveSite:
             raise faults[0]
 
     def update_plan(self) -> None:
-        """Reads the plan if it has changed, or if it could not be read before, because the reason may have passed. When the new plan may be shown, begins
-        to read its matches."""
+        """Reads the plan if it has changed. If it could not be read before, tries again, because the cause may be gone. When the new plan may be
+        shown, begins to read its matches."""
         stamp, began = plan_stamp(self.plan.folder), time.monotonic()
         if stamp != self.plan_stamp or self.refusal and began >= self.next_reading:
             self.plan_stamp = stamp
@@ -386,7 +386,7 @@ class LiveSite:
         if changed:
             version = next(self.versions)
             events = [*page.events[1 - MOST_EVENTS :], (version, event_text(version, {**changed, "now": self.delay.now()}))]
-            # At least two changes are kept, because viewers have the version of the last but one.
+            # At least two changes are kept, because viewers still have the version that the second-to-last change led to.
             while len(events) > 2 and sum(len(text) for _, text in events) > BYTES_OF_EVENTS:
                 del events[0]
             page.events = tuple(events)
@@ -445,5 +445,5 @@ class LiveSite:
         idle = [path for path, page in self.pages.items() if page.is_idle(now)]
         rest = [path for path, page in self.pages.items() if not page.viewers and path not in idle]
         for path in [*idle, *rest[: max(0, len(self.pages) - len(idle) - MOST_PAGES)]]:
-            # If somebody has just begun to watch it, the browser must load it again.
+            # If somebody has just begun to watch a dropped page, the browser must load that page again.
             self.pages.pop(path).is_final = True

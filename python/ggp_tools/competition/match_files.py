@@ -86,8 +86,8 @@ def account_bytes(folder: Folder, match: str) -> bytes | None:
 
 
 def fault_of_files(record: bytes, account: bytes | None, rules: bytes) -> str | None:
-    """Returns the reason why the files of a match cannot be passed to the referee, or None. Such a reason is anything that makes the referee
-    stop reading, or that it skips."""
+    """Returns the reason why the files of a match cannot be passed to the referee, or None. Such a reason is any input that makes the referee stop
+    reading, or that the referee skips."""
     if account is None:
         return "its call log is missing"
     if len(account) > LONGEST_ACCOUNT:
@@ -104,7 +104,7 @@ def fault_of_files(record: bytes, account: bytes | None, rules: bytes) -> str | 
 
 
 def has_shape(record: object, roles: int) -> bool:
-    """Returns whether a JSON value has all those parts of a record that determine a result."""
+    """Returns whether a JSON value contains all the parts of a record that determine its result."""
     if not isinstance(record, dict):
         return False
     goals, errors = record.get("goalValues"), record.get("errors")
@@ -187,7 +187,7 @@ def checks(plan: "Plan", referee: Referee, game: str, matches: Sequence[Match], 
         else:
             left.append((match, record, account))
     faults = referee_faults(plan, referee, game, [record for _, record, _ in left], [account for _, _, account in left]) if left else ()
-    # If the program or the rules have changed meanwhile, the referee may have used either version.
+    # If the program or the rules have changed in the meantime, the referee may have used either version.
     is_same = rule and rule == sum_of_rule(plan, referee, game)
     for (match, record, account), fault in zip(left, faults):
         check = done[match.id] = check_of(plan, match, record, fault)

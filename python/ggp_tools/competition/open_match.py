@@ -41,13 +41,13 @@ def leave_players(directory: pathlib.Path) -> None:
 
 def reason_of(done: Done, player: str) -> str:
     """Returns, in parentheses, the reason that the referee reported for a player that did not answer INFO, for example that the HTTP status is not
-    200. If there is no such reason, the text is empty."""
+    200. If there is no such reason, returns an empty string."""
     start = f"ggp_manager: {player}: "
     return next((f" ({line.removeprefix(start)})" for line in message_lines(done.errors) if line.startswith(start)), "")
 
 
 class OpenMatch:
-    """An open match. At its end, it has either a result or the reason why it has none. If it has neither, it will be played later."""
+    """An open match. At its end, it has a result or the reason why it has no result. If it has neither, it will be played later."""
 
     def __init__(self, playing: "Playing", match: Match) -> None:
         self.playing, self.match = playing, match
@@ -60,11 +60,11 @@ class OpenMatch:
         # that counts as one try.
         self.taken_at, self.has_slots = time.monotonic(), True
         self.result, self.why = None, None
-        # Whether its players must be sent ABORT; whether a referee may still play it on a node; whether the rules of its game are wrong.
+        # Whether its players must be sent ABORT; whether a referee may still be playing it on a node; whether the rules of its game are wrong.
         self.is_broken, self.goes_on, self.stops_game = False, False, False
 
     async def go(self) -> None:
-        """Plays the match. If the match is broken off while it is being played, sets `is_broken`."""
+        """Plays the match. If the match is interrupted, sets `is_broken`."""
         try:
             await in_thread(self.playing.disk, self.make_directory)
             if played := await (self.play_elsewhere() if self.playing.launcher else self.play_here()):
@@ -96,8 +96,8 @@ class OpenMatch:
             self.playing.news.set()
 
     def close(self) -> None:
-        """Removes the directory, unless the match has a result, or its players must still be sent ABORT because it broke now or during an earlier
-        `play`."""
+        """Removes the directory, unless the match has a result, or its players must still be sent ABORT because it was interrupted now or during an
+        earlier `play`."""
         if self.stage == ASKING and (self.directory / PLAYERS).exists():
             leave_players(self.directory)
         elif not self.is_broken and not self.result:
@@ -167,7 +167,7 @@ class OpenMatch:
             file.write(line_of(event))
 
     async def play_here(self) -> bytes | None:
-        """Plays the match on this computer, and returns the output of the referee. If the match is broken off or does not begin, returns None."""
+        """Plays the match on this computer, and returns the output of the referee. If the match is interrupted or does not begin, returns None."""
         if not await self.can_be_played():
             return None
         self.reporter.begins(self.match)

@@ -40,7 +40,7 @@ OTHERWISE = "its bytes are not those that `publish` would write: the difference 
 
 
 class Spoilt(Refused):
-    """The errors of an archive, in lines."""
+    """The errors of an archive, one on each line."""
 
 
 class TooLarge(Exception):

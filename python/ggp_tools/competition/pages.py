@@ -72,7 +72,7 @@ def first_ranks(table: Table, is_over: bool) -> list[tuple[str, list[str]]]:
 
 
 def seconds_of(log: Beginning) -> str:
-    """Returns how long a match took, as text. If the log has no times, the text is empty."""
+    """Returns how long a match took, as text. If the log contains no times, returns an empty string."""
     if log.began is None or not log.ended:
         return ""
     return "the clock was set back" if log.is_set_back or log.ended < log.began else f"{(log.ended - log.began) / 1_000:.1f}"
@@ -221,7 +221,7 @@ class Site:
         return list_part("gaps", "Matches without a record", "They do not count.", missing, MOST_LISTED, ", listed in GAPS.tsv")
 
     def span(self, results: list[Result]) -> tuple[str, str]:
-        """Returns when the first match began, and when the last one ended. If no log has these times, both texts are empty."""
+        """Returns when the first match began, and when the last one ended. If no log contains these times, both strings are empty."""
         ended = [self.ended[result.match.id] for result in results]
         begins, ends = [match.begin for match in ended if match.begin], [match.end for match in ended if match.end]
         return (spelt(min(begins)), spelt(max(ends))) if begins and ends else ("", "")
@@ -297,7 +297,8 @@ class Pages:
         if not known:
             need_modules()
         self.site, self.plan, self.folder, self.known = Site(plan, shows_gaps), plan, plan.folder.pages, known
-        # The time before which the pages must not be written again; by name, what each page was made from; and the checksums of the pages.
+        # The pages must not be written again before the time `next`. By name, `keys` says what each page was made from, and `sums` gives the checksum
+        # of the page.
         self.next, self.keys, self.sums = 0.0, {}, {}
 
     def write_now_and_then(self, results: Callable[[], list[Result]]) -> None:
@@ -367,7 +368,7 @@ class Pages:
         self.make_matches(left)
 
     def make_matches(self, works: list[tuple[str, str, tuple]]) -> None:
-        """Writes pages of matches. Each item of `works` has the name and the key of a page, and the arguments of `match_page`."""
+        """Writes pages of matches. Each item of `works` consists of the name and the key of a page, and the arguments of `match_page`."""
         for (name, key, _), data in zip(works, made_side_by_side(match_page, [work for _, _, work in works])):
             self.put(name, data)
             if self.known:

@@ -24,7 +24,7 @@ from ggp_tools.referee import Referee, Unchecked
 
 SUM_LINE = re.compile(rb"([0-9a-f]{64})  ([^\n]+)\n")
 ONLY_SUMS = re.compile(rb"(?:[0-9a-f]{64}  [^\n]+\n)*")
-# The file of another competition's table, which has the seeds.
+# The file of another competition's table, which gives the seeds.
 TABLE = "table.csv"
 WRITES = "`ggp_competition plan` writes it"
 PUT_BACK = "undo the change: once matches have been played, the plan can only grow"

@@ -22,8 +22,7 @@ LAST_ERRORS = f"The last {MOST_ERRORS}, at most {MOST_OF_MATCH} of each match."
 
 @dataclass(frozen=True)
 class MoveError:
-    """A replaced move: its turn, counted from 1; the error; the move that was played; and, if the log has them, the message and the
-    answer."""
+    """A replaced move: its turn, counted from 1; the error; the move that was played; and, if the log contains them, the message and the answer."""
 
     turn: int
     error: str

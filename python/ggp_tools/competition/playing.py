@@ -146,7 +146,7 @@ class Playing:
         if (fault := self.reporter.journal.fault) and not self.is_full:
             self.is_full = True
             self.reporter.line(f"{fault.filename} can't be written: {fault.strerror}; no more matches begin")
-        # Matches whose players are being asked can't begin any more. They are cancelled, because their launcher may take long.
+        # Matches whose players are being asked can no longer begin. They are cancelled, because their launcher may take long.
         for open_match, task in self.open.items() if not self.may_begin() else ():
             if open_match.stage == ASKING and not task.cancelling():
                 self.waiting.append(open_match.match)
@@ -245,8 +245,8 @@ def seconds_left(
 ) -> float | None:
     """Estimates how many seconds the remaining matches take. Returns None until the first match has ended. The estimate is the maximum of
     three times: for the longest open match, for the player with the most left to play, and for all matches if as many as allowed are played
-    at the same time. `open_matches` has the time since each open match began. If a game has no finished matches, the mean of the
-    other games is used."""
+    at the same time. `open_matches` gives the time since each open match began. If a game has no finished matches, the mean of the other games is
+    used."""
     times = [seconds for game in took.values() for seconds in game]
     if not times:
         return None
@@ -341,7 +341,7 @@ def prepare(playing: Playing) -> None:
 
 def play(playing: Playing) -> dict[str, str]:
     """Plays all matches. The caller must have locked the directory. Returns the reason for each match without a lawful record, by match id."""
-    # The usual limit of open files is too low for many open matches.
+    # The usual limit on open files is too low for many open matches.
     allow_files()
     if sys.version_info < (3, 12):
         # The default child watcher would start a thread for each process.

@@ -13,7 +13,7 @@ WIDTH, ROW, MARGIN = 640, 20, 8
 NAMES, FIGURES = 150, 90
 MOST_ROWS, MOST_POINTS = 100, 200
 HEIGHT = 120
-# Each bar of response times ends at twice the milliseconds of the previous bar. The last bar has all longer times.
+# Each bar of response times ends at twice the milliseconds of the previous bar. The last bar counts all longer times.
 BARS = 18
 
 
@@ -22,7 +22,7 @@ def drawn(plot: str, **values: object) -> "Markup":
 
 
 def rating_plot(lines: list[Line]) -> str:
-    """Plots the ratings of players with their intervals. If fewer than two players have ratings, returns an empty text."""
+    """Plots the ratings of players with their intervals. If fewer than two players have ratings, returns an empty string."""
     rated = [line for line in lines if line.rating and line.rating.rating is not None][:MOST_ROWS]
     if len(rated) < 2:
         return ""
@@ -54,8 +54,8 @@ def sampled(values: list[float]) -> list[tuple[int, float]]:
 
 
 def goals_plot(goals: list[int]) -> str:
-    """Plots the goals of matches in their order as dots, and the running mean as a line. If there are fewer than two matches, the text is
-    empty."""
+    """Plots the goals of matches in their order as dots, and the running mean as a line. If there are fewer than two matches, returns an empty
+    string."""
     if len(goals) < 2:
         return ""
     means = [total / count for count, total in enumerate(itertools.accumulate(goals), 1)]
@@ -78,7 +78,7 @@ def spelt_time(milliseconds: int) -> str:
 
 
 def times_plot(counts: list[int]) -> str:
-    """Plots how many response times fall into each bar. If there are no response times, the text is empty."""
+    """Plots how many response times fall into each bar. If there are no response times, returns an empty string."""
     if not any(counts):
         return ""
     most, wide = max(counts), (WIDTH - 20) / BARS

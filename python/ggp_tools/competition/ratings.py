@@ -57,9 +57,8 @@ def likeliest(points: numpy.ndarray) -> list[tuple[float, float]] | None:
 
 
 def rated(players: Sequence[str], points: Mapping[tuple[str, str], float], anchors: Mapping[str, int] = MappingProxyType({})) -> dict[str, Rating]:
-    """Returns the rating of each player. `points` has, for each pair, the points of the first player against the second: 1 for a win, and
-    a half for a draw. The ratings of a group with anchors are shifted, so that the mean of the anchors' ratings is that of the
-    ratings given for them."""
+    """Returns the rating of each player. `points` gives, for each pair, the points of the first player against the second: 1 for a win, and a half
+    for a draw. The ratings of a group with anchors are shifted, so that the mean of the anchors' ratings is that of the ratings given for them."""
     numbers, matrix = {player: number for number, player in enumerate(players)}, numpy.zeros((len(players), len(players)))
     for (player, opponent), count in points.items():
         matrix[numbers[player], numbers[opponent]] = count

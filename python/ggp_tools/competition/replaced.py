@@ -31,8 +31,8 @@ def newest(moves: Iterable[Replaced]) -> list[Replaced]:
 
 
 def replaced_moves(match: Match, turns: Iterable[tuple[Texts, Texts]], moments: Mapping[int, float], otherwise: float) -> list[Replaced]:
-    """Returns the last replaced moves of a match, from the moves and the errors of its turns. A move that was replaced because the referee
-    lacked a resource does not count. If the time of a turn is unknown, `otherwise` is used."""
+    """Returns the last replaced moves of a match, from the moves and the errors of its turns. A move that was replaced because the referee lacked a
+    resource, for example memory, does not count. If the time of a turn is unknown, `otherwise` is used."""
     replaced: list[Replaced] = []
     for turn, (moves, errors) in enumerate(turns, 1):
         for role, error in enumerate(errors):

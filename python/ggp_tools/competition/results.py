@@ -97,7 +97,7 @@ class Result:
 
 
 def forfeit_words(result: Result) -> str:
-    """Says who has forfeited a match, why, and which goals count. If there is no forfeit, the text is empty."""
+    """Says who has forfeited a match, why, and which goals count. If there is no forfeit, returns an empty string."""
     lost, players = result.forfeits(), result.match.players
     if not lost:
         return ""
@@ -106,7 +106,7 @@ def forfeit_words(result: Result) -> str:
 
 
 def winner_words(result: Result) -> str:
-    """Says who won a match, or who drew. If the match has only one role, or no goals that count, the text is empty."""
+    """Says who won a match, or who drew. If the match has only one role, or no goals that count, returns an empty string."""
     return winner_of_worths(result.match.players, result.worths() or ())
 
 
@@ -147,7 +147,7 @@ def fault_of_record(record: dict, match: Match, strikes: int) -> str | None:
 
 
 def kind_of(error: str) -> str:
-    """Returns the kind of an error. It does not contain the answer of the player."""
+    """Returns the kind of an error, without the player's answer."""
     return "IL" if error.startswith("IL ") else error
 
 
@@ -217,8 +217,8 @@ def result_keys(result: Result) -> dict[str, object]:
 
 
 def match_line(result: Result, sums: Mapping[str, str | None], logged: Beginning, broken: list[dict[str, object]]) -> bytes:
-    """Returns a match as one line of JSON. `sums` has the checksums of the record, of the rules, and of the description that the
-    rules were made from. `broken` has the broken answers with their reasons."""
+    """Returns a match as one line of JSON. `sums` gives the checksums of the record, of the rules, and of the description that the rules were made
+    from. `broken` lists the broken answers with their reasons."""
     match = result.match
     values = {
         "id": match.id,

@@ -26,7 +26,7 @@ def count_of_all(plan: Plan) -> int:
 
 
 def rounds_words(plan: Plan) -> str:
-    """Says how many rounds are planned, and how many matches the later rounds have. If there are no rounds, the text is empty."""
+    """Says how many rounds are planned, and how many matches the later rounds have. If there are no rounds, returns an empty string."""
     if not plan.rounds:
         return ""
     left = matches_to_come(plan.competition, plan.rounds)
@@ -35,7 +35,7 @@ def rounds_words(plan: Plan) -> str:
 
 
 def round_text(competition: Competition, match: Match) -> str:
-    """Names the round of a match. If the match has no round, the text is empty."""
+    """Names the round of a match. If the match has no round, returns an empty string."""
     return f"Round {match.round} of {rounds_of(competition)}." if match.round else ""
 
 

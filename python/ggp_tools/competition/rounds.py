@@ -168,7 +168,7 @@ def winner(pair: tuple[str, str], results: Collection[Result], scores: Scores, w
 
 
 def knockout_round(size: int, names: Sequence[str], before: Sequence[Round], winners: Collection[str | None], withdrawn: Mapping[str, str]) -> Round:
-    """Returns the next round of a knockout. `size` is the number of its players, and `names` has them in the order of their seeds. The rounds
+    """Returns the next round of a knockout. `size` is the number of its players, and `names` lists them in the order of their seeds. The rounds
     `before` are over, and `winners` are the winners of the last one."""
     places: list[str | None] = [names[seed] if seed < len(names) else None for seed in bracket(size)]
     for going_on in [*(earlier.players() for earlier in before[1:]), {*winners, *before[-1].byes}] if before else ():
@@ -192,7 +192,7 @@ class Rounds:
         self.seeds: list[str] = []
 
     def next(self, competition: Competition, results: Sequence[Result]) -> Round:
-        """Returns the next round. `results` has the results that count in the last round."""
+        """Returns the next round. `results` contains the results that count in the last round."""
         self.scores = self.scores or Scores(competition)
         if self.counted < len(self.found):
             self.count(results)

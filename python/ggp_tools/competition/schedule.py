@@ -41,7 +41,7 @@ class Match:
         return not self.again and not self.withdrawn
 
     def why_not(self) -> str:
-        """Returns why the match does not count, or an empty text if the match counts."""
+        """Returns why the match does not count, or an empty string if the match counts."""
         return self.withdrawn or self.again and f"{self.again} replaces it: {self.reason}"
 
     def line(self) -> str:
@@ -100,7 +100,7 @@ def pairings(competition: Competition, roles: Mapping[str, int]) -> Iterator[tup
 
 
 def asked(competition: Competition, roles: Mapping[str, int]) -> list[tuple[str, tuple[str, ...]]]:
-    """Returns the matches that competition.toml asks for, each as a game and its players. `roles` has the number of roles of each game."""
+    """Returns the matches that competition.toml asks for, each as a game and its players. `roles` gives the number of roles of each game."""
     refuse_numbers(competition, roles)
     matches = list(itertools.islice(pairings(competition, roles), MOST_MATCHES + 1))
     refuse_too_many(competition, len(matches))

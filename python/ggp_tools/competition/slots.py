@@ -39,8 +39,8 @@ class Slots:
 
     def count_failure(self, player: str, taken_at: float) -> bool:
         """Records that a player was busy or did not answer when it was asked for a match that took its slots at `taken_at`. Returns whether to ask
-        the player again, which is not the case after `tries` failed tries in a row. If the player was asked for several matches at the same
-        time, that counts as one try."""
+        the player again: after `tries` failed tries in a row, it is not asked again. If the player was asked for several matches at the same time,
+        that counts as one try."""
         if taken_at <= self.failed_at[player]:
             return self.failed[player] < self.tries
         self.idle_until = 0.0

@@ -20,7 +20,7 @@ from ggp_tools.processes import ended_words
 from ggp_tools.referee import Referee
 from ggp_tools.reporting import Reporter
 
-# The address of a player that is not running. No program listens at this port.
+# The address of a player that is not running. No program listens on this port.
 HERE, NOWHERE = "127.0.0.1", "127.0.0.1:1"
 # A player must end within this many seconds.
 END_SECONDS = 15
@@ -135,7 +135,7 @@ class StartedPlayer:
             self.reporter.line(f"down {match} {self.name}: | {line}")
 
     async def came_up(self) -> str:
-        """Starts the process, and waits until it answers INFO. Returns an empty text, or the reason why it does not answer."""
+        """Starts the process, and waits until it answers INFO. Returns an empty string, or the reason why it does not answer."""
         command, launcher = self.command, launcher_of(self.folder, self.name, self.command)
         job = self.job = Job(self.log.take, self.log.take, command.queue_seconds, END_SECONDS)
         job.start(launcher, {"words": [program_of(self.folder, self.command.words[0]), *command.words[1:]], "player": {
@@ -152,8 +152,8 @@ class StartedPlayer:
         return f"it did not {what} within {command.start_seconds} s; it may need more `start_seconds`{more}"
 
     async def answers(self, job: Job) -> str | None:
-        """Waits until the player answers INFO, and returns an empty text. If the address that it reports is that of another player, returns an
-        error. If it ends or its time is over, returns None."""
+        """Waits until the player answers INFO, and returns an empty string. If the address that it reports is that of another player, returns an
+        error. If the player ends or its time runs out, returns None."""
         until, pause = time.monotonic() + self.command.start_seconds, FIRST_PAUSE
         if not await job.reports(job.has_player, self.command.start_seconds):
             return None
@@ -163,7 +163,7 @@ class StartedPlayer:
             return other
         while not job.running.done() and (left := until - time.monotonic()) > 0:
             if (await run(self.referee.info_words(self.place()), seconds=left)).status == 0 and job.status is None and not job.running.done():
-                # Another player may have come up at this address meanwhile.
+                # Another player may have started at this address in the meantime.
                 async with self.comparing:
                     other = await self.other_there()
                     self.has_answered = not other
@@ -173,7 +173,7 @@ class StartedPlayer:
         return None
 
     async def other_there(self) -> str:
-        """Returns an error if the address that a launcher reported is known to be that of another player, or an empty text. The launcher's computer
+        """Returns an error if the address that a launcher reported is known to be that of another player, or an empty string. The launcher's computer
         may be hostile, and must not direct messages to another player."""
         known = self.known() if self.command.launcher else {}
         names = await asyncio.to_thread(lambda: [name for name, address in known.items() if are_same(self.address, address)]) if known else []
@@ -202,7 +202,7 @@ class StartedPlayer:
 
 
 def spelled_place(place: str) -> str:
-    """Returns a player with its address for messages. A player that is not running has none."""
+    """Returns a player with its address, for messages. If the player is not running, returns its name without an address."""
     return f"{place.removesuffix(f'@{NOWHERE}')} (not reachable)" if place.endswith(f"@{NOWHERE}") else place
 
 

@@ -46,7 +46,7 @@ class Line:
     absent: int = 0
     retired: int = 0
     rating: Rating | None = None
-    # These have values only in the table of all games, and only if the competition is played in rounds.
+    # The following fields have values only in the table of all games, and only if the competition is played in rounds.
     byes: int = 0
     round_points: float | None = None
     buchholz: float | None = None
@@ -75,7 +75,7 @@ class Line:
 @dataclass
 class Table:
     """The table of a game, or of all games: the lines by player, the order of the lines, and the matches that rematches replace. For each pair of
-    players, it has the points of the first against the second, and how many times they met. The table of all games also has the rounds, and
+    players, it gives the points of the first against the second, and how many times they met. The table of all games also lists the rounds, and
     remarks about withdrawn players."""
 
     game: str

@@ -26,7 +26,7 @@ METHOD = (
 
 
 def forfeit_rule(competition: Competition) -> str:
-    """Explains how a player forfeits a match, and which goals count then. If no player can forfeit a match, the text is empty."""
+    """Explains how a player forfeits a match, and which goals count then. If no player can forfeit a match, returns an empty string."""
     most = competition.faults.replaced
     conditions = ["it was retired"] * competition.forfeit + [f"{most:,} or more of its moves were replaced (forced moves do not count)"] * bool(most)
     counts = (
@@ -117,15 +117,15 @@ def cells_of(table: Table, line: Line) -> dict[str, str]:
 
 
 def standings_rows(table: Table) -> Iterator[list[str]]:
-    """Yields the rows of the standings. The first row has the heads."""
+    """Yields the rows of the standings. The first row contains the column heads."""
     yield ["", *cells_of(table, Line("nobody"))]
     for rank, line in zip(table.ranks(), table.standings()):
         yield [str(rank), *cells_of(table, line).values()]
 
 
 def crosstable_rows(table: Table) -> Iterator[list[str]]:
-    """Yields the rows of the crosstable. The first row has the heads. A cell has the points, a slash, and the number of matches. The
-    players have the same order and numbers as in the standings."""
+    """Yields the rows of the crosstable. The first row contains the column heads. A cell consists of the points, a slash, and the number of matches.
+    The players have the same order and numbers as in the standings."""
     order = [line.player for line in table.standings()]
     yield ["", "player", *map(str, range(1, len(order) + 1))]
     for number, player in enumerate(order, 1):

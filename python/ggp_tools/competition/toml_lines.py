@@ -125,7 +125,7 @@ def lines_of(text: str) -> dict[Path, int]:
 
 
 def header_path(names: Path, is_member: bool, counts: Counter) -> Path:
-    """Returns the path of the table that a header begins; `counts` has the number of members of each array of tables so far."""
+    """Returns the path of the table that a header begins; `counts` gives the number of members of each array of tables so far."""
     path = ()
     for number, name in enumerate(names, 1):
         path += (name,)

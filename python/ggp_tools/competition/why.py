@@ -138,7 +138,7 @@ class Explanation:
         return Entry(time, message.role, f"{text}. Message {message.number}: {message_of(message.message)}")
 
     def mark_of(self, message: Message) -> str | None:
-        """Returns the error that the record has for START or for the last message, or an empty text if there is no error. Returns None for other
+        """Returns the error that the record has for START or for the last message, or an empty string if there is no error. Returns None for other
         messages, or if there is no record."""
         if not self.record or message.kind == PLAY or message.kind is None:
             return None

@@ -18,8 +18,8 @@ class Shown:
         self.game, self.states, self.named = game, [texts_of(game.initial)], Named(game.sentences, is_hex)
         self.roles = list(map(spelled, game.roles))
         self.state: State = game.initial
-        # `known` has the moves that were legal so far, by relation. `made` has the last move of each role that had a choice. `choosing` has the roles
-        # that have a choice now.
+        # `known` contains the moves that were legal so far, by relation. `made` contains the last move of each role that had a choice. `choosing`
+        # contains the roles that have a choice now.
         self.known: dict[Group, set[str]] = {}
         self.made: dict[object, str] = {}
         self.choosing = self.roles_with_choice()

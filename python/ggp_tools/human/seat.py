@@ -266,7 +266,7 @@ class Seat:
             self.legal = []
             if self.sent is None:
                 self.show("late", [], "Your time is up: the referee plays your first legal move.")
-                # If the connection closed before the clock ends, the referee would report a connection error.
+                # If the connection closed before the clock ran out, the referee would report a connection error.
                 self.changed.wait_for(lambda: self.asked != asked, 2 * SPARE)
             return self.sent
 

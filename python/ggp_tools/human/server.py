@@ -1,4 +1,4 @@
-"""Serves the referee and the person's browser on one port: POST / is a message of the referee, GET /TOKEN/ is the page. Only the person has the
+"""Serves the referee and the person's browser on one port: POST / is a message from the referee, GET /TOKEN/ is the page. Only the person has the
 token, so other users of this computer and pages of other sites cannot see the page or the move."""
 
 import contextlib
@@ -31,8 +31,8 @@ LONGEST_HEAD = 16_384
 ALIVE = 1.0
 # A request must arrive within this many seconds, and one more for each MiB of its body. The client must accept the answer within PATIENCE seconds.
 REQUEST_SECONDS, PATIENCE = 5, 30
-# The maximum number of connections. Within PERIOD seconds, strangers (clients that are neither the referee nor this computer) may open at most as
-# many connections.
+# The maximum number of connections. Within PERIOD seconds, strangers (clients that are neither the referee nor this computer) may open at most the
+# same number of connections.
 MOST_CONNECTIONS, PERIOD = 128, 1.0
 # The maximum number of long bodies that are read at the same time, so that few of them are in memory.
 MOST_LONG = 8
@@ -151,7 +151,7 @@ class Handler(BaseHTTPRequestHandler):
             self.take_message(body)
 
     def body(self, most: int) -> bytes | None:
-        """Returns the body of a request, or None if it is cut off, or its length is missing or too large."""
+        """Returns the body of a request. Returns None if the body is cut off, or if its length is missing or too large."""
         size = self.headers["Content-Length"] or ""
         if not re.fullmatch("[0-9]{1,8}", size) or int(size) > most:
             return None
@@ -232,8 +232,9 @@ class Server(ThreadingHTTPServer):
         self.ends, self.strangers = 0.0, []
 
     def verify_request(self, request: socket.socket, client_address: tuple[str, int]) -> bool:
-        """Returns whether a connection gets a thread, which costs much more than a refusal. A stranger that has used up its share gets none. If there
-        are too many connections, closes the oldest one without a complete request."""
+        """Returns whether a connection gets a thread, which costs much more than a refusal. A client that is neither the referee nor this computer
+        gets no thread once it has used up its share of connections. If there are too many connections, closes the oldest one without a complete
+        request."""
         client = client_of(client_address[0])
         is_stranger = client != THIS_COMPUTER and client_address[0] not in self.seat.referees
         if is_stranger and not self.is_in_share(client) or not self.visitors.has_room_for(client):
@@ -252,7 +253,8 @@ class Server(ThreadingHTTPServer):
             self.last = asked
 
     def is_in_share(self, client: str) -> bool:
-        """Returns whether a stranger may have one more connection. It has a share of the open connections, and a share of those that begin in a period."""
+        """Returns whether a stranger may have one more connection. Each stranger has a share of the open connections, and a share of the connections
+        that begin in a period."""
         if time.monotonic() >= self.ends:
             self.ends, self.strangers = time.monotonic() + PERIOD, []
         count = max(self.visitors.counts[client], self.strangers.count(client))

@@ -9,7 +9,7 @@ function element(name, text) {
   return made;
 }
 
-// A move that names a column has 0 in the place of a row.
+// A move that names a column gives 0 as the row.
 const same = (one, other) => one[0] === other[0] && (one[1] === other[1] || !one[1]);
 const chosenOf = (board) => chosen.filter((it) => it.board === board).length;
 // Whether a move names the chosen places of a board, in their order.
@@ -20,7 +20,7 @@ function fits(move) {
   });
 }
 
-// Whether a move names no further place than those that are chosen: on one board, since two boards may have the same places.
+// Whether all the places that a move names on some board are chosen. One board suffices, because two boards may have the same places.
 function isWhole(move) {
   return move.places.every((own) => !own.length) || move.places.some((own, board) => own.length && own.length <= chosenOf(board));
 }
@@ -87,7 +87,7 @@ events.onmessage = (event) => {
   view = JSON.parse(event.data);
   chosen = [];
   $("filter").value = "";
-  // The server has made this HTML by the same templates as all pages. They escape everything that comes from a match.
+  // The server has made this HTML with the same templates as all pages. The templates escape everything that comes from a match.
   $("shown").innerHTML = view.state || "";
   deadline = view.left === null ? null : Date.now() + 1000 * view.left;
   draw();

@@ -31,7 +31,7 @@ function play() {
   button.textContent = "Pause";
 }
 
-// Goes to the state after a turn, or to the page that has it.
+// Goes to the state after a turn, or to the page that shows this state.
 function go(turn) {
   stop();
   const part = turn < first || turn > last ? parts.filter((it) => Number(it.dataset.first) <= Math.max(0, turn)).pop() : null;
@@ -57,7 +57,7 @@ document.addEventListener("keydown", (event) => {
 });
 for (const it of document.querySelectorAll("nav button")) it.addEventListener("click", () => steps[it.dataset.key]());
 turns.forEach((row, turn) => row.addEventListener("click", () => go(turn)));
-// An address such as #turn=12 opens the page on the state after that turn, any other one on the last state.
+// An address such as #turn=12 opens the page at the state after that turn. Any other address opens it at the last state.
 const goToAsked = () => go(/^#turn=[0-9]+$/.test(location.hash) ? turnOf(location.hash) : last);
 addEventListener("hashchange", goToAsked);
 document.body.classList.add("stepping");

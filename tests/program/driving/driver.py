@@ -53,7 +53,7 @@ def little_room(size: int, reaction: Callable | signal.Handlers | int | None) ->
 
 
 def closed_port() -> socket.socket:
-    """Returns a socket whose port accepts no connection. While the socket is open, only a server of this process can listen at the port."""
+    """Returns a socket whose port accepts no connection. While the socket is open, only a server of this process can listen on the port."""
     endpoint = socket.socket()
     endpoint.setsockopt(socket.SOL_SOCKET, socket.SO_REUSEADDR, 1)
     endpoint.bind(("127.0.0.1", 0))

@@ -120,7 +120,7 @@ def played(namespace: str, program: str, address: str, seconds: int, rules: str 
 
 
 def blamed(case: str, ended: Ended, marks: list[str]) -> Iterator[str]:
-    """Checks that there is a record, and that the player has the errors `marks` in the record. Yields the differences."""
+    """Checks that there is a record, and that the record gives the errors `marks` for the player. Yields the differences."""
     if (ended.status, ended.marks()) != (0, marks):
         yield f"{case}: expected a record with {marks}, got status {ended.status}, {ended.marks()}, {ended.errors!r}"
 

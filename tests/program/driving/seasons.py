@@ -89,8 +89,8 @@ def errors_of(record):
 
 
 def faults_of_records(program, game, text, ids, players):
-    """Yields the errors in the records of a season. Each match must have one lawful record. The record must have the moves that the players
-    sent, and no errors."""
+    """Yields the errors in the records of a season. Each match must have one lawful record. The record must contain the moves that the players sent,
+    and no errors."""
     try:
         records = records_in(whole_lines(text)[0])
     except ValueError as fault:
