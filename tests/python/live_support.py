@@ -77,8 +77,8 @@ def begin(plan: Plan, match: object, log: str = "") -> pathlib.Path:
     room.mkdir(parents=True, exist_ok=True)
     for name in ("asking", "players", "playing"):
         (room / name).touch()
-    plan.folder.room_log(match.id).write_text(log)
-    return plan.folder.room_log(match.id)
+    plan.folder.open_log(match.id).write_text(log)
+    return plan.folder.open_log(match.id)
 
 
 def started(match: object, time: int | None = None) -> str:

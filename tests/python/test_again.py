@@ -12,7 +12,7 @@ from unittest import mock
 
 from ggp_tools.competition import command, playing
 from ggp_tools.competition.competition_file import read_competition
-from ggp_tools.competition.files import Folder, Refused, held
+from ggp_tools.competition.files import Folder, Refused, locked
 from ggp_tools.competition.growth import Again, History
 from ggp_tools.competition.plan import Plan, order_again, replaceable_match, schedule_of
 from ggp_tools.descriptions.loading import Rules
@@ -104,7 +104,7 @@ class OrderedAgain(unittest.TestCase):
 
     def test_no_other_run_changes_the_plan_once_it_is_read(self):
         def read(path, _):
-            with self.assertRaises(Refused), held(path):
+            with self.assertRaises(Refused), locked(path):
                 pass
             return self.plan
 

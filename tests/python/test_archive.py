@@ -17,7 +17,7 @@ import unittest
 from unittest import mock
 
 from ggp_tools.competition.command import main
-from ggp_tools.competition.files import held, written_whole
+from ggp_tools.competition.files import locked, written_whole
 from ggp_tools.competition.packing import Spoilt, pack, unpack
 from players import TestPlayer
 from support import GAMES, ODD, program, program_but, run, toml
@@ -261,7 +261,7 @@ class Archive(unittest.TestCase):
         self.assertEqual((run(cup, "publish", "--program", write)[0], (cup / "cup.tar.gz").read_bytes()), (0, published))
 
     def test_no_two_publish_at_once(self):
-        with held(self.folder):
+        with locked(self.folder):
             said = "ggp_competition: .: another command is planning, playing or publishing this competition\n"
             self.assertEqual(run(self.folder, "publish"), (2, "", said))
 

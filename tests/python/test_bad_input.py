@@ -13,7 +13,7 @@ from ggp_tools.competition.command import COMMANDS
 from ggp_tools.descriptions.loading import NoDescription, instantiated
 from ggp_tools.descriptions.random_matches import TimeIsOver
 from ggp_tools.competition.files import Refused, write_whole
-from ggp_tools.competition.game import trial
+from ggp_tools.competition.game import try_rules
 from ggp_tools.competition.plan import faults_of_descriptions, make_plan, read_plan
 from ggp_tools.referee import NoReferee, find_program
 from support import COMMAND, GAMES, ODD, TOP, InFolder, call, program, program_but, raised, run, run_into_full, stand_in, toml
@@ -122,7 +122,7 @@ class BadInput(InFolder):
     def test_a_game_whose_matches_are_long_is_planned_and_told(self):
         for fault, words in ((TimeIsOver(), "none of its random matches ended within 10 s"), (RecursionError(), "it was not tested: its rules depend on one another too deeply")):
             with mock.patch("ggp_tools.descriptions.random_matches.RandomMatches.play", side_effect=fault):
-                why, note = trial(b"(role a)", None, "game")
+                why, note = try_rules(b"(role a)", None, "game")
             self.assertIsNone(why)
             self.assertIn(words, note)
 
@@ -130,7 +130,7 @@ class BadInput(InFolder):
         for is_terminal in (False, True):
             with contextlib.redirect_stdout(io.StringIO()) as out, contextlib.redirect_stderr(io.StringIO()) as said:
                 said.isatty = lambda: is_terminal
-                self.assertEqual(trial((GAMES / "countdown.kif").read_bytes(), None, "game"), (None, None))
+                self.assertEqual(try_rules((GAMES / "countdown.kif").read_bytes(), None, "game"), (None, None))
             self.assertEqual((out.getvalue(), said.getvalue() != "", "game: random match 1" in said.getvalue()), ("", is_terminal, is_terminal))
 
     def played(self):

@@ -22,8 +22,8 @@ class Played:
         self.may_go_on = threading.Event()
         self.checking = Checking(self.plan, stand_in(verdicts=self.verdicts, replays=lambda rules, accounts, records: [True] * len(records)))
         for match in self.plan.matches:
-            self.folder.room_log(match.id).parent.mkdir(parents=True)
-            self.folder.room_log(match.id).touch()
+            self.folder.open_log(match.id).parent.mkdir(parents=True)
+            self.folder.open_log(match.id).touch()
 
     def verdicts(self, rules, records):
         self.may_go_on.wait()
@@ -42,7 +42,7 @@ class Played:
     async def check(self, match):
         record = json.dumps(record_of(match, [["(take 2)", "noop"]], [["", ""]], [0, 100])).encode() + b"\n"
         account = f"0\topen {match.id} 0 10 10\topened\n".encode()
-        return await self.checking.check(match, record + account, self.folder.room_log(match.id))
+        return await self.checking.check(match, record + account, self.folder.open_log(match.id))
 
 
 @pytest.fixture(autouse=True)

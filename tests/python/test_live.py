@@ -10,7 +10,7 @@ import unittest
 from unittest.mock import patch
 
 from ggp_tools.competition import live, live_board
-from ggp_tools.competition.files import held
+from ggp_tools.competition.files import locked
 from ggp_tools.competition.live import Delay, Reader
 from ggp_tools.competition.live_board import NO_LINE, NO_VERDICT, TOO_LONG, LiveBoard
 from ggp_tools.competition.live_pages import now_part, open_row, replaced_part, state_html, turn_row
@@ -73,7 +73,7 @@ class Lines(InRoom):
     def test_whether_a_run_holds_the_folder(self):
         folder = self.plan.folder.path
         self.assertFalse(live.is_locked(folder))
-        with held(folder):
+        with locked(folder):
             self.assertTrue(live.is_locked(folder))
             # The list of locks may miss a lock if others disappear while it is read.
             for missed, is_held in ((4, True), (5, False)):

@@ -14,7 +14,7 @@ from unittest import mock
 
 from ggp_tools.competition import match_files
 from ggp_tools.competition.competition_file import Faults
-from ggp_tools.competition.files import UNFINISHED, Folder, Refused, file_bytes, held, lock_place, sync, write_whole
+from ggp_tools.competition.files import UNFINISHED, Folder, Refused, file_bytes, lock_place, locked, sync, write_whole
 from ggp_tools.competition.match_files import (
     account_bytes, batches, check_records, checks, fault_of_files, free_ending, has_shape, keep, referee_faults, set_aside, unplanned_records,
     size_of, unverified_result,
@@ -67,7 +67,7 @@ class Kept(unittest.TestCase):
         self.folder = Folder(pathlib.Path(self.enterContext(tempfile.TemporaryDirectory())))
         self.folder.make(self.folder.records, self.folder.accounts)
         competition = types.SimpleNamespace(strikes=0)
-        self.plan = types.SimpleNamespace(folder=self.folder, competition=competition, rules={"one": RULES}, matches=[], judge=lambda referee, _: referee)
+        self.plan = types.SimpleNamespace(folder=self.folder, competition=competition, rules={"one": RULES}, matches=[], referee_of=lambda referee, _: referee)
 
     def matches(self, *sizes):
         """Writes the files of matches of one game, with records and call logs of these sizes."""
@@ -168,7 +168,7 @@ class Kept(unittest.TestCase):
 
     def test_where_a_folder_can_not_be_held_no_other_run_is_blamed(self):
         for fault, words in ((BlockingIOError(errno.EAGAIN, "busy"), "another command is planning, playing or publishing this competition"), (OSError(errno.EBADF, "bad"), "can't be locked: bad")):
-            with mock.patch("fcntl.flock", side_effect=fault), self.assertRaises(Refused) as why, held(self.folder.path):
+            with mock.patch("fcntl.flock", side_effect=fault), self.assertRaises(Refused) as why, locked(self.folder.path):
                 pass
             self.assertIn(words, str(why.exception))
 
@@ -208,7 +208,7 @@ class Looked(unittest.TestCase):
         self.program.write_text("program")
         self.referee = Said(str(self.program))
         matches = [Match(f"cup-{at}", "two" if at == 3 else "one", 5, 6, ("ann", "bob")) for at in range(4)]
-        self.plan = types.SimpleNamespace(folder=self.folder, competition=types.SimpleNamespace(strikes=2, forfeit=True, faults=Faults(0)), rules={"one": RULES, "two": RULES}, matches=matches, judge=lambda referee, game: referee)
+        self.plan = types.SimpleNamespace(folder=self.folder, competition=types.SimpleNamespace(strikes=2, forfeit=True, faults=Faults(0)), rules={"one": RULES, "two": RULES}, matches=matches, referee_of=lambda referee, game: referee)
         for match in matches:
             self.write(match)
 
@@ -246,7 +246,7 @@ class Looked(unittest.TestCase):
     def test_a_verdict_stands_before_what_a_replay_says(self):
         records = [b"{}\n", b'{"verdict":"not lawful: state 1"}\n', b"{}\n"]
         # Each game has its limits.
-        self.plan.judge = lambda *asked: {("usual", "one"): self.referee}[asked]
+        self.plan.referee_of = lambda *asked: {("usual", "one"): self.referee}[asked]
         self.assertEqual(referee_faults(self.plan, "usual", "one", records, [b"right", b"right", b"wrong"]), [None, "not lawful: state 1", "its call log does not reproduce its record"])
         self.assertEqual(self.referee.replayed, [(b"right", records[0]), (b"wrong", records[2])])
         self.assertEqual(referee_faults(self.plan, "usual", "one", [], []), [])
@@ -445,8 +445,8 @@ class Files(InFolder):
             raised(OSError, file_bytes, path)
         sync(folder)
         lock_place(folder)
-        with held(folder):
-            raised(Refused, held(folder).__enter__)
+        with locked(folder):
+            raised(Refused, locked(folder).__enter__)
         still_open = {os.path.realpath(link) for link in pathlib.Path("/proc/self/fd").iterdir()}
         self.assertEqual(still_open & {os.path.realpath(folder), os.path.realpath(pipe)}, set())
 

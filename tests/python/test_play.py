@@ -14,7 +14,7 @@ import unittest
 
 import pytest
 
-from ggp_tools.competition.files import held
+from ggp_tools.competition.files import locked
 from ggp_tools.competition.command import MOST_LINES
 from players import TestPlayer
 from support import GAMES, InFolder, command_of, program, program_but, run, run_into_full, start, wait_until
@@ -556,7 +556,7 @@ class Play(InFolder):
         shutil.rmtree(self.folder / "records")
         self.assertEqual(run(self.folder, "play", preexec_fn=lambda: os.closerange(0, 3)), (0, "", ""))
         self.assert_sound(self.schedule)
-        with held(self.folder):
+        with locked(self.folder):
             self.assertEqual(run(self.folder, "play", preexec_fn=lambda: os.close(2)), (2, "", ""))
             self.assertEqual(run(self.folder, "play", preexec_fn=lambda: os.close(1))[:2], (2, ""))
 

@@ -157,7 +157,7 @@ class Why(InFolder):
         before = line(match, 0, 1, f"(START {match.id})", "ready") + line(match, 0, 2, f"(PLAY {match.id} NIL)", "before")
         end(plan, match, record | {"startMarks": ["TO", ""], "endMarks": ["", "TO"]}, before + log)
         # Because there is a record, a log that an interrupted `play` has left does not count.
-        left = plan.folder.room_log(match.id)
+        left = plan.folder.open_log(match.id)
         left.parent.mkdir(parents=True)
         left.write_text(log.replace("lost", "left"))
         said = "\n".join(Explanation(plan, match).lines(["ann", "bob"]))

@@ -8,7 +8,7 @@ from collections import Counter
 from collections.abc import Callable, Iterable, Iterator
 
 from ggp_tools import VERSION
-from ggp_tools.competition.files import Refused, file_bytes, held, write_whole
+from ggp_tools.competition.files import Refused, file_bytes, locked, write_whole
 from ggp_tools.competition.game import add_game, run_game
 from ggp_tools.competition.init_file import add_init, write_first_file
 from ggp_tools.competition.known import Known
@@ -223,7 +223,7 @@ def missing_rows(missing: dict[str, str]) -> Iterator[tuple[str, list[str]]]:
 
 def run_play(asked: argparse.Namespace, referee: Referee) -> int:
     """Plays a competition, and plans it first if competition.toml is new or has changed. No other run changes the plan while matches are played."""
-    with held(asked.folder):
+    with locked(asked.folder):
         try:
             plan = read_plan(asked.folder, referee)
         except Unplanned:
@@ -231,7 +231,7 @@ def run_play(asked: argparse.Namespace, referee: Referee) -> int:
         if plan:
             return play_planned(plan, asked, referee)
     print_plan(make_plan(asked.folder, referee))
-    with held(asked.folder):
+    with locked(asked.folder):
         return play_planned(read_plan(asked.folder, referee), asked, referee)
 
 
@@ -320,7 +320,7 @@ def run_publish(asked: argparse.Namespace, referee: Referee) -> int:
     from ggp_tools.competition.packing import TooLarge
 
     # The lock keeps other runs from changing the plan until the archive is written.
-    with held(asked.folder):
+    with locked(asked.folder):
         plan = read_plan(asked.folder, referee)
         path, known = archive_path(plan, asked.to), Known(plan.folder.path)
         results, is_faulty = known_results(plan, referee, known)

@@ -46,7 +46,7 @@ def allow_files() -> int:
 
 
 @contextlib.contextmanager
-def held(path: pathlib.Path) -> Iterator[None]:
+def locked(path: pathlib.Path) -> Iterator[None]:
     """Locks the directory of a competition. If the process is killed, the system releases the lock."""
     path = pathlib.Path(path)
     try:
@@ -205,7 +205,7 @@ class Folder:
     def log(self, match: str) -> pathlib.Path:
         return self.logs / f"{match}.jsonl"
 
-    def room_log(self, match: str) -> pathlib.Path:
+    def open_log(self, match: str) -> pathlib.Path:
         """Returns the log of an open match."""
         return self.open / match / "log.jsonl"
 

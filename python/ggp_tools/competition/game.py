@@ -27,7 +27,7 @@ MOST_MATCHES, MOST_SEED = 10_000, 10**18
 # The maximum number of seeds in a list, and the maximum number of bytes of a state in a message.
 LISTED, MOST_STATE = 10, 500
 # `plan` plays random matches until one of them ends, but at most this many, and begins no turn after this many seconds.
-TRIAL_MATCHES, TRIAL_SECONDS = 5, 10
+TRY_MATCHES, TRY_SECONDS = 5, 10
 # The last line of `ggp-instantiate` if it failed for a reason other than an error in the description.
 NO_VERDICT = re.compile(
     r"ggp-instantiate ended with status .*|ggp-instantiate: (error: |gringo is not installed|gringo took |gringo ran ).*|.*: can't open file .*"
@@ -195,20 +195,20 @@ def report_figures(reporter: Reporter, roles: Sequence[str], ended: list) -> Non
         reporter.line(f"{quoted(name)}: goals {spread(goals) if goals else 'none'}; most legal moves at once: {most:,}")
 
 
-def trial(rules: bytes, referee: Referee, name: str) -> tuple[str | None, str | None]:
+def try_rules(rules: bytes, referee: Referee, name: str) -> tuple[str | None, str | None]:
     """Plays random matches of a game before it is planned. If none of them ends, the description is most likely wrong. Returns the error,
     and a note if there is no verdict. Both are None if a match ends."""
     from ggp_tools.descriptions.random_matches import RandomMatches, TimeIsOver
 
     reporter = Reporter()
     try:
-        played = RandomMatches(rules, referee, name, reporter, TRIAL_SECONDS)
-        for seed in range(1, TRIAL_MATCHES + 1):
+        played = RandomMatches(rules, referee, name, reporter, TRY_SECONDS)
+        for seed in range(1, TRY_MATCHES + 1):
             played.play(seed, f"{name}: random match {seed}")
             if not played.ended[-1].cause:
                 return None, None
     except TimeIsOver:
-        return None, f"none of its random matches ended within {TRIAL_SECONDS} s; `ggp_competition game` tries for longer"
+        return None, f"none of its random matches ended within {TRY_SECONDS} s; `ggp_competition game` tries for longer"
     except RecursionError:
         return None, "it was not tested: its rules depend on one another too deeply"
     finally:
@@ -216,4 +216,4 @@ def trial(rules: bytes, referee: Referee, name: str) -> tuple[str | None, str | 
     causes = ", ".join(dict.fromkeys(match.cause for match in played.ended))
     if all(match.turns == 0 for match in played.ended):
         return f"none of its matches can begin: each is aborted at the start with `{causes}`", None
-    return f"all of {TRIAL_MATCHES} random matches were aborted, with `{causes}`", None
+    return f"all of {TRY_MATCHES} random matches were aborted, with `{causes}`", None

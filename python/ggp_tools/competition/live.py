@@ -443,7 +443,7 @@ class Reader:
             names = os.listdir(self.plan.folder.open / name)
             # If a run was ended, the directory has only the names of players, to whom ABORT must still be sent.
             stage = next((stage for stage in reversed(STAGES) if stage in names), None)
-            return stage and OpenFiles(stage, extent_at(self.plan.folder.room_log(name), self.delay.seconds > 0))
+            return stage and OpenFiles(stage, extent_at(self.plan.folder.open_log(name), self.delay.seconds > 0))
         except (FileNotFoundError, NotADirectoryError):
             return None
         except OSError:
@@ -469,7 +469,7 @@ class Reader:
         folder = self.plan.folder
         self.faults.pop(match.id, None)
         board = LiveBoard(match, self.plan.competition.strikes, folder.rules_of(match.game))
-        return LiveMatch(match, self.plan.roles(match.game), Tail(str(folder.room_log(match.id)), event_of, str(folder.log(match.id))), board)
+        return LiveMatch(match, self.plan.roles(match.game), Tail(str(folder.open_log(match.id)), event_of, str(folder.log(match.id))), board)
 
     @contextlib.contextmanager
     def noting_changes(self, live_match: LiveMatch) -> Iterator[None]:
@@ -544,7 +544,7 @@ class Reader:
             if time.monotonic() >= until:
                 break
             with self.noting_changes(live_match):
-                live_match.advance(self.plan.judge(self.referee, live_match.match.game))
+                live_match.advance(self.plan.referee_of(self.referee, live_match.match.game))
         if due:
             ended = time.monotonic()
             self.next_advance = ended + REFEREE_SHARE * (ended - began)

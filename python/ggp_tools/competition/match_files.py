@@ -129,7 +129,7 @@ def unverified_result(folder: Folder, competition: Competition, rules: Mapping[s
 
 def referee_faults(plan: "Plan", referee: Referee, game: str, records: Sequence[bytes], accounts: Sequence[bytes]) -> list[str | None]:
     """Returns, for each record with its call log, the error that the referee finds in the record or the call log, or None."""
-    rules, referee = plan.folder.rules_of(game), plan.judge(referee, game)
+    rules, referee = plan.folder.rules_of(game), plan.referee_of(referee, game)
     verdicts = referee.verdicts(rules, records)
     lawful = [at for at, verdict in enumerate(verdicts) if verdict == "lawful"]
     replays = dict(zip(lawful, referee.replays(rules, [accounts[at] for at in lawful], [records[at] for at in lawful])))

@@ -52,8 +52,8 @@ class OpenMatch:
     def __init__(self, playing: "Playing", match: Match) -> None:
         self.playing, self.match = playing, match
         self.plan, self.slots, self.reporter, self.players = playing.plan, playing.slots, playing.reporter, playing.players
-        self.referee = self.plan.judge(playing.referee, match.game)
-        self.directory, self.log = self.plan.folder.open / match.id, self.plan.folder.room_log(match.id)
+        self.referee = self.plan.referee_of(playing.referee, match.game)
+        self.directory, self.log = self.plan.folder.open / match.id, self.plan.folder.open_log(match.id)
         self.places: list[str] = []
         self.stage, self.seconds = ASKING, 0.0
         # When the match took the slots of its players. If a player that was asked for several matches at the same time does not answer,

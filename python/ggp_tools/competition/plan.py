@@ -11,8 +11,8 @@ from pathlib import Path
 
 from ggp_tools.competition.addresses import mistakes_of_addresses, places_now, written
 from ggp_tools.competition.competition_file import MOST_OF_COMPETITION, RANDOM_IDS, REASON, Competition, Game, Mistake, Mistaken, mistake_lines
-from ggp_tools.competition.files import MOST_OF_PLANNED, UNFINISHED, Folder, Refused, file_bytes, held, opened_file, write_whole
-from ggp_tools.competition.game import trial
+from ggp_tools.competition.files import MOST_OF_PLANNED, UNFINISHED, Folder, Refused, file_bytes, locked, opened_file, write_whole
+from ggp_tools.competition.game import try_rules
 from ggp_tools.competition.growth import Again, Growing, History, Misfit, grown, refuse_changes, refuse_unchanged, shape
 from ggp_tools.competition.history import again_text, competition_of_file, earlier_files, history_files, read_history, read_key, seeded
 from ggp_tools.competition.match_files import check_records, checks, record_bytes, unverified_result
@@ -54,7 +54,7 @@ class Plan:
     def roles(self, game: str) -> tuple[str, ...]:
         return self.rules[game].roles
 
-    def judge(self, referee: Referee, game: str) -> Referee:
+    def referee_of(self, referee: Referee, game: str) -> Referee:
         """Returns the referee with the limits that apply to a game: the usual ones, or those for large games."""
         return referee.taking(self.rules[game].is_large)
 
@@ -194,7 +194,7 @@ def loaded_games(folder: Folder, competition: Competition, referee: Referee) -> 
         if game.tells_variables() and rules.player_rules is None:
             mistakes.append(Mistake(game.player_rules_line, "games.player_rules", f'{path} has no variables: use "ground"'))
         if not game.aborts:
-            why, note = trial(rules.text, program.taking(rules.is_large), game.name)
+            why, note = try_rules(rules.text, program.taking(rules.is_large), game.name)
             mistakes += [Mistake(game.line, "games.file", f"{path}: {why}; with `aborts = true` it is planned anyway")] if why else []
             rules_by_name[game.name] = replace(rules, notes=(*rules.notes, *([note] if note else [])))
     if mistakes:
@@ -235,7 +235,7 @@ def make_plan(path: str, referee: Referee, is_preview: bool = False) -> Plan:
     rules = loaded_games(folder, competition, referee)
     files = {folder.rules_of(name): ground.text for name, ground in rules.items()}
     files |= {folder.player_rules_of(name): ground.player_rules for name, ground in rules.items() if ground.player_rules is not None}
-    with held(folder.path):
+    with locked(folder.path):
         has_begun = is_begun(folder)
         known = count_of_matches(folder) if has_begun else None
         needs_key = competition.ids == RANDOM_IDS and not (has_begun or folder.key.exists())
@@ -466,7 +466,7 @@ def order_again(path: str, referee: Referee, match_id: str, reason: str) -> Matc
     """Plans a rematch that replaces the match with this id, stores the reason, and returns the new match."""
     if not REASON.fullmatch(reason):
         raise Refused("--reason: expected 1 to 200 printable ASCII characters, without a space at either end")
-    with held(path):
+    with locked(path):
         plan = read_plan(path, referee)
         match = replaceable_match(plan, referee, match_id)
         history = replace(plan.history, again=(*plan.history.again, Again(plan.next_id(), match.id, reason)))

@@ -7,7 +7,7 @@ import tempfile
 from dataclasses import replace
 
 from ggp_tools.competition.competition_file import Competition, Game, Player
-from ggp_tools.competition.files import Folder, Refused, held
+from ggp_tools.competition.files import Folder, Refused, locked
 from ggp_tools.competition.history import competition_of_file
 from ggp_tools.competition.plan import loaded_games, read_toml_file, refuse_addresses
 from ggp_tools.competition.started_players import StartedPlayer
@@ -80,7 +80,7 @@ def run_try(asked: argparse.Namespace, referee: Referee) -> int:
     refuse_addresses(folder, replace(competition, players=(player,)))
     rules = loaded_games(folder, replace(competition, games=(game,)), referee)[game.name]
     # The lock keeps `play` from starting the same player.
-    with held(folder.path):
+    with locked(folder.path):
         folder.make(folder.players)
         remarks = Remarks()
         started = StartedPlayer(folder, player, 0, referee, remarks)

@@ -115,7 +115,7 @@ class Explanation:
 
     def runs(self) -> list[list[Entry]]:
         """Returns the messages of each run of the match, from the log of the match. The log may still be growing."""
-        open_log = self.folder.room_log(self.match.id)
+        open_log = self.folder.open_log(self.match.id)
         file = open_log if not self.record and open_log.is_file() else self.folder.log(self.match.id)
         with opened_file(file) if file.is_file() else contextlib.nullcontext(io.BytesIO()) as log:
             runs = [[message for message in messages(run) if message.role < len(self.roles)] for run in runs_of(log, self.match.id)]
