@@ -16,3 +16,7 @@ largest_single descriptors players none = record {
   allowed = inl (omega arith);
   largest = λ has_players others allows. elim (allowed_most descriptors players others has_players allows) [ inl few ↦ few | inr many ↦ omega (arith, subst (λ n. others ≤ n) (none has_players) many) ];
 }
+
+pub fewer_allowed : (descriptors players count fewer : ℕ) → fewer ≤ count → Allows descriptors players count → Allows descriptors players fewer
+fewer_allowed descriptors players count fewer are_fewer (inl few) = inl (omega (arith, are_fewer, few))
+fewer_allowed descriptors players count fewer are_fewer (inr many) = inr (omega (arith, mul-le fewer players count players are_fewer (omega arith), many))

@@ -17,6 +17,13 @@ use Rattle.command_faults.specs.declared.files.NamedFile.TheVariants.{Records}
 use Rattle.ggp_commands.specs.Schedules.{GoesTo, WritesPlans, WritesPlansUpTo}
 use Rattle.matches_to_play.specs.ToPlay.{AreLeft, AreToPlay, AreUndone, HasNoPlans}
 
+-- If fewer matches are played at once, the same output is written.
+pub same_output : {P : Type 0} (is_reached : RolePlace → PlayerAddress → P → Type 0) (handed : P → Option (List Handed)) (game : PlayableGame) (whole form : SeasonForm) (plans : List MatchPlan) (missing : ℕ) (old new : Option (List ℕ))
+    → form ≡ record whole { at_once = form.at_once }
+    → WritesAllBut (IsOutputOf is_reached handed game plans form.has_history) form.order missing (length plans) old new → WritesPlans is_reached handed game whole plans missing old new
+same_output is_reached handed game whole form plans missing old new same written =
+    subst (λ (f : SeasonForm). WritesAllBut (IsOutputOf is_reached handed game plans f.has_history) f.order missing (length plans) old new) same written
+
 -- The outputs of the matches were written to the file of records, and the output does not change.
 pub written_to_file : {P F : Type 0} (is_reached : RolePlace → PlayerAddress → P → Type 0) (handed : P → Option (List Handed)) (game : PlayableGame) (season : SeasonPlan) (schedule : List ℕ) (records : Option F) (path : F) (plans : List MatchPlan) (missing : ℕ) (old : Option (List ℕ))
     → records ≡ Some path → AreUndone game.game.now season.strikes season.done schedule plans

@@ -7,6 +7,11 @@ use Rattle.match_messages.specs.InfoReading.{status_pair}
 use Rattle.match_messages.specs.MessageReading.{members_in, moves_in, info_in, start_in, id_and_moves, abort_in}
 use Rattle.match_messages.specs.declared.messages.MessageFault.TheVariants.{BadMessage}
 
+pub moves_listed : (x : Expression) (xs : List Expr) → members_in x ≡ Some (views xs) → 0 < length xs → moves_in x ≡ Some (Some (all_folded (views xs)))
+moves_listed (atom w) xs is some = absurd cc
+moves_listed (list ys) [] is some = absurd (omega arith)
+moves_listed (list ys) (x ∷ xs) is some = let e : ys ≡ views (x ∷ xs) = cc in rw e refl
+
 pub status_few : (xs : List Expr) → length xs < 2 → status_pair (views xs) ≡ None
 status_few [] few = refl
 status_few (x ∷ []) few = refl
