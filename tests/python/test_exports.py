@@ -6,7 +6,7 @@ import types
 import unittest
 
 from ggp_tools.kif import expressions, spelled
-from ggp_tools.records.exports import text_of, times_of
+from ggp_tools.records.exports import index_row, text_of, times_of
 from test_collection import FAULTY as NOT_LAWFUL, LAWFUL, WithPile, record
 from test_facts import LOG, SIX, read
 
@@ -89,6 +89,8 @@ class Files(WithPile):
         self.assertEqual((found["isCompleted"], found["isAborted"], found["moves"]), (False, True, []))
         self.assertFalse({"goalValues", "errors"} & set(found))
         read_match(text)
+        judged = types.SimpleNamespace(line=types.SimpleNamespace(match_id="m1"), game=None, verdict="lawful", is_lawful=True)
+        self.assertEqual(index_row(judged, aborted, "page")["players"], [("ann", None), ("bob", None)])
 
     def test_a_text_gives_back_the_moves_and_errors(self):
         """The text of a match is a paragraph: headers, and a row for each turn. A `;` precedes the error of a replaced move."""

@@ -231,7 +231,7 @@ class Lines(unittest.TestCase):
     def test_several_matches_of_one_id_have_nothing_of_a_log(self):
         self.assert_unknown(TWO_LOGS, BROKEN, LOG.replace('"ms":505', '"ms":506'), LOG)
         facts, other = self.facts(LOG), {**BROKEN, "playClock": 6}
-        data = [json.dumps(facts.of(self.judged(record))).encode() for record in (BROKEN, BROKEN, other)]
+        data = [json.dumps(facts.of(self.judged(record))).encode() for record in (BROKEN, BROKEN, other, {**other, "players": ["ann", "eve"]})]
         self.assertEqual(facts.faults, {"m1": TWO_RECORDS})
         for fact in map(json.loads, map(facts.without_log, data)):
             self.assertEqual((fact["begin"], fact["end"], fact["host"], fact["messages"]), (None,) * 4)

@@ -64,6 +64,10 @@ CHANGES = [
     (None, "(line 1) (<= (base (step 1)) (n 1)) (n 1)", ["line 11, column 1: the game does not use `(line _)`: (line 1)"]),
     (None, "(over 1)", ["line 11, column 1: the game does not use `(over _)`, only for `over`: (over 1)"]),
     (None, "(n 1) (<= terminal (n 2))", ["line 11, column 20: no rule and no fact gives this: (n 2)"]),
+    (None, "(n 1) (<= (line 1) (n 2))", [
+        "line 11, column 1: the game does not use `(n _)`: (n 1)", "line 11, column 11: the game does not use `(line _)`: (line 1)",
+        "line 11, column 20: no rule and no fact gives this: (n 2)",
+    ]),
     (None, "(sees ann bob)", [
         "line 11, column 1: `sees` belongs to GDL-II, for games with chance or hidden information; here each role sees every move:"
         " (sees ann bob)",
@@ -112,6 +116,7 @@ class Suspicious(unittest.TestCase):
         self.assertEqual(lines_of(text.encode() + b"(<= (legal ?any x) (role ?any))", ground + eve[:14]), [f"{said}: (legal eve x)"])
         # A sentence whose rule could hold in some state may be false in all states that are reached.
         self.assertEqual(lines_of(text.encode(), ground + b"(<= (legal eve x) (true (cell 1)))"), [])
+        self.assertEqual(lines_of(f"{OPEN}(goal eve 1)".encode(), ground), ["line 8, column 1: eve is not a role: (goal eve 1)"])
         self.assertEqual(lines_of(SOUND.encode(), SOUND.encode() + eve), [])
 
     def test_a_move_that_no_player_can_make(self):

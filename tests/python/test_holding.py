@@ -73,6 +73,9 @@ class Followed(unittest.TestCase):
         said = "after turn 1 the record lacks t, which sentence 5, line 1: (<= (next t) (does ann go)) gives and sentence 8, line 1: (<= (next t) (true s) (does bob wait)) gives"
         self.assertEqual(self.words(text, moves=[("go", "wait")], states=[["s"], ["u"]]), said)
         self.assertIsNone(self.words(text, moves=[("go", "wait")], states=[["s"], ["t", "u"]]))
+        ruled = "(player ann) (player bob) (<= (role ?x) (player ?x)) (init s) (legal ann go) (legal bob wait) (<= (next t) (does ann go))"
+        said = "after turn 1 the record lacks t, which sentence 6, line 1: (<= (next t) (does ann go)) gives"
+        self.assertEqual(self.words(ruled, moves=[("wait", "go")], states=[["s"], []], roles=("bob", "ann")), said)
 
     def test_answers_that_were_not_taken(self):
         text = f"{self.RULES} (legal ann stay) (<= (next s) (true s))"
