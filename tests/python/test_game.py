@@ -58,6 +58,7 @@ CHANGES = [
         "line 4, column 26: no `init` and no `next` gives the term x: (true x)",
         "line 4, column 40: no `init` and no `next` gives the term (y 1): (true (y 1))",
     ]),
+    ("(not (true (step 1)))", "(~ (true (step 1)))", ["line 4, column 22: `(~ _)` has no rule and no fact; did you mean `not`?: (~ (true (step 1)))"]),
     (None, "(init (mark 1)) (init (mark 2))", [
         "line 11, column 1: no condition uses the term (mark 1): (init (mark 1)) (and 1 more like this)",
     ]),
@@ -114,6 +115,8 @@ class Suspicious(unittest.TestCase):
         said = "eve is not a role, but a fact of the ground rules has it"
         self.assertEqual(lines_of(text.encode(), ground + eve), [f"line 3, column 5: {said}: (legal eve x) (and 1 more like this)"])
         self.assertEqual(lines_of(text.encode() + b"(<= (legal ?any x) (role ?any))", ground + eve[:14]), [f"{said}: (legal eve x)"])
+        others = b"(<= (legal ?any x) (role ?any)) (<= (legal ?any z) (role ?any))"
+        self.assertEqual(lines_of(text.encode() + others, ground + eve[14:]), [f"line 3, column 5: {said}: (legal eve y)"])
         # A sentence whose rule could hold in some state may be false in all states that are reached.
         self.assertEqual(lines_of(text.encode(), ground + b"(<= (legal eve x) (true (cell 1)))"), [])
         self.assertEqual(lines_of(f"{OPEN}(goal eve 1)".encode(), ground), ["line 8, column 1: eve is not a role: (goal eve 1)"])

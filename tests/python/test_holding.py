@@ -264,6 +264,7 @@ class Described(unittest.TestCase):
     def test_what_is_no_description(self):
         for text, words in (
             ("(role a)\n(<= (legal a ?m) (does a ?m))", "line 2, column 1: legal depends on does: (<= (legal a ?m) (does a ?m)); let `next` record what the moves did, and read that with `true`"),
+            ("(role a)\n(init \xe9)", "line 2, column 7: a byte that is not a character of KIF: '\xe9'; write it in ASCII, or in a comment"),
             ("(role a)\n" + "(" * 70_000, "line 2, column 65: lists are nested more than 64 deep"),
             ("(role a)\n(<= p " + "(not " * 70_000 + "q" + ")" * 70_001, "line 2, column 322: lists are nested more than 64 deep"),
         ):

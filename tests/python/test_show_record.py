@@ -247,6 +247,9 @@ def test_boards_of_hexagons(places: list[tuple[int, int]], is_hex: bool, lean: i
     page = parsed(show.page_of({**example("countdown"), "moves": [], "errors": [], "states": [first]}, frame=show.Frame(named=named)))
     cells = [tuple(map(int, re.findall("[0-9]+", cell["style"]))) for cell in page.select(".hex i")]
     assert cells == (sorted(places) if lean else [])
+    for shape in page.select(".hex"):
+        ends = [2 * x + lean * y for x, y in (map(int, re.findall("[0-9]+", part["style"])) for part in shape.select("i, b:not(.row)"))]
+        assert f"--shift:{min(ends) - 2};--halves:{max(ends) - min(ends) + 2}" in shape["style"]
 
 
 @pytest.mark.parametrize(("state", "count"), FORMS)
