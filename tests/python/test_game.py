@@ -281,6 +281,7 @@ class Game(InFolder):
             ("ann", [], f"no sentence gives ann a goal value in this state; the sentences about goals are {rule} and {fact} and sentence 2, line 2: (goal (o 1) 5)"),
             ("ann", ["(won 150)"], f"ann has the goal value 150 (not a number from 0 to 100), by {rule}"), ("bob", ["(won 1)"], f"bob has the goal value 5, by {fact}"),
             ("ann", ["(won 9)", "(won (a))", "(won 7)", "(won 8)"], f"ann has 4 goal values in this state: (a) (not a number from 0 to 100), by {rule}; 7, by {rule}; 8, by {rule}"),
+            ("ann", ["(won 9)", "(won 7)"], f"ann has 2 goal values in this state: 7, by {rule}; 9, by {rule}"),
             ("(o 1)", [], "(o 1) has the goal value 5, by sentence 2, line 2: (goal (o 1) 5)"),
         ):
             self.assertEqual(goals_said(goals, role, state), words)

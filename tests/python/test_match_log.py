@@ -37,6 +37,7 @@ class Lines(unittest.TestCase):
     def test_a_message_is_written_as_the_referee_writes_it(self):
         wanted = b'{"event":"message","match":"m1","role":0,"player":"ann","number":3,"kind":"PLAY","round":1,"time":1764447301123,"ms":12,'
         self.assertEqual(LINE, wanted + b'"message":"(PLAY m1 (a b))","answer":"a","error":null,"reason":null}\n')
+        self.assertIn(rb'"message":"\"\\\u001b\u00ff"', line_of(replace(MESSAGE, message='"\\\x1b\xff')))
 
     def test_each_event_is_read_as_it_was_written(self):
         self.assertEqual({type(event) for event in (MESSAGE, *OTHERS)}, {*NAMES, Other})

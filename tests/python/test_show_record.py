@@ -303,6 +303,12 @@ def test_the_ground_of_a_board_is_on_more_than_half_of_all_places() -> None:
     assert [len(parsed(shown["boards"]).select(".ground")) for shown in show.states_of_page([state, swapped], [])] == [3, 1]
 
 
+@pytest.mark.parametrize(("move", "count"), [("noop", 0), ("(mark 1 2)", 1)])
+def test_a_board_that_no_state_shows_has_places_that_moves_name(move: str, count: int) -> None:
+    rules = f"(init (cell 1 1 b)) (next (cell 2 2 b)) (legal r {move})"
+    assert len(show.boards_of([[]], show.named_in(rules.encode(), False))) == count
+
+
 def test_if_rules_have_too_many_names_boards_keep_their_shape(monkeypatch: pytest.MonkeyPatch) -> None:
     named = show.named_in(b"(init (cell 1 1 b))", True)
     for most in (1, 0):
