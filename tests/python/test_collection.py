@@ -189,7 +189,7 @@ class Commands(WithPile):
         rows = [line.split("\t")[1:] for line in said.stdout.splitlines()]
         verdicts = ["lawful", "not lawful: state 1", "lawful"]
         self.assertEqual([row[3] for row in rows[:3]], verdicts)
-        self.assertEqual([row[0] for row in rows], ["1", "3", "4", "5", "6"])
+        self.assertEqual([row[:2] for row in rows], [["1", "m1"], ["3", "m1"], ["4", "m1"], ["5", "-"], ["6", "-"]])
         self.assertEqual([row[2] for row in rows], ["countdown"] * 3 + ["-"] * 2)
         self.assertEqual(said.returncode, 1)
         self.assertEqual(said.stderr, "ggp-records: 2 lawful, 1 not lawful, 1 no record, 1 no game has its roles, 1 call log line skipped\n")

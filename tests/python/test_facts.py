@@ -255,6 +255,7 @@ class Lines(unittest.TestCase):
     def test_the_number_of_an_asked_abort_is_not_known(self):
         record = {**RECORD, "endMarks": ["CE", None], "startMarks": ["", None], "phase": "aborted", "cause": "asked", "goalValues": []}
         self.assertEqual(self.of(record)["broken"], [{"role": 0, "message": None, "why": None}])
+        self.assertIsNotNone(self.of({**record, "endMarks": ["CE", ""], "startMarks": ["", ""]}, "".join(LINES[:3]))["messages"])
 
     def test_a_match_that_is_not_over_has_no_end(self):
         record = {**RECORD, "phase": "playing", "moves": [["(take 1)", "noop"]], "errors": [["", ""]], "endMarks": [None, None], "goalValues": []}

@@ -13,6 +13,7 @@ import pytest
 
 from ggp_tools.competition.game import aborted_line, report_figures
 from ggp_tools.descriptions.goals import goals_said
+from ggp_tools.descriptions.refused import why_refused
 from ggp_tools.descriptions.suspicious import suspicions
 from support import COMMAND, GAMES, InFolder, program, program_but, run, run_into_full
 
@@ -163,6 +164,11 @@ class Suspicious(unittest.TestCase):
             self.assertLess(time.process_time() - began, 15)
             self.assertTrue(any(words in line for line in found), found)
 
+    def test_of_sentences_that_conflict_eight_are_listed(self):
+        for count, end in ((8, "(role a)"), (9, "; and 1 more")):
+            said = why_refused(b"(role a) " * count)[0]
+            self.assertEqual((said.count("(role a)"), said.endswith(end)), (8, True), said)
+
     def test_where_a_condition_stands(self):
         text = SOUND + "(<= terminal (or (not (a1)) b2)\n  (or (and c3 (not (not d4))) (distinct x y) over) (true (e5 x y)))"
         found = [line.split(": ")[0] for line in lines_of(text.encode())]
@@ -285,6 +291,7 @@ class Game(InFolder):
             ("(o 1)", [], "(o 1) has the goal value 5, by sentence 2, line 2: (goal (o 1) 5)"),
         ):
             self.assertEqual(goals_said(goals, role, state), words)
+        self.assertTrue(goals_said("(role ann)" + "".join(f"(goal bob {at})" for at in range(5)), "ann", []).endswith("(goal bob 2) and 2 more"))
         self.assertEqual(goals_said("(role", "ann", []), "")
         self.assertEqual(goals_said("(role ann)", "ann", []), "no sentence gives ann a goal value in this state; no sentence is about goals")
 

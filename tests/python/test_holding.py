@@ -4,6 +4,7 @@ import contextlib
 import json
 import subprocess
 import sys
+import tempfile
 import unittest
 from unittest import mock
 
@@ -317,7 +318,13 @@ class Command(unittest.TestCase):
         status, said, _ = self.run_it(nim, data=wrong + b"\n" + record)
         self.assertEqual((status, said[-1], said[0][:40]), (1, "the same: 0 turns", "differs: the first state lacks (heap a 1"))
         self.assertEqual([self.run_it(nim, data=data)[0] for data in (b"{}", b"{}\n" + record, b"{}\n" + wrong + b"\n{}", b"")], [3, 3, 1, 0])
-        self.assertEqual(self.run_it("--seconds", "0.000001", GAMES / "general/large/fullchess.kif", data=record)[0], 3)
+        # The timer fires at a tick of the clock. Even on a busy computer, this description takes many ticks.
+        chain = "".join(f"(after {at} {at + 1})" for at in range(700))
+        text = f"(role first) (role second) {chain} (<= (far ?x ?y) (after ?x ?y)) (<= (far ?x ?z) (far ?x ?y) (after ?y ?z)) (<= (init ?x) (far ?x ?x))"
+        with tempfile.NamedTemporaryFile("w") as slow:
+            slow.write(text)
+            slow.flush()
+            self.assertEqual(self.run_it("--seconds", "0.000001", slow.name, data=record)[0], 3)
         self.assertEqual(self.run_it(nim.with_name("none.kif"), data=record)[0], 2)
         self.assertEqual(self.run_it("--seconds", "0", nim, data=record)[0], 2)
         self.assertEqual(self.run_it(TOP / "README.md", data=record)[0], 3)

@@ -124,6 +124,7 @@ class Texts(unittest.TestCase):
             "m1 open 1970-01-01T00:00:00.005Z", "m1 open", "m1 end STOP 1970-01-01T00:00:00.006Z", "m1 host me@there:22", "m1 absent 0 ann",
             "m1 ? no record refused badid", "left out 12", "log ggp_manager 0.3.0", "m1 lost ssh: gone", "m1 held",
         ])
+        self.assertEqual(text_of(Other("odd", {"match": 5})), "5 odd")
 
     @given(TEXTS, TEXTS)
     def test_nothing_that_a_terminal_obeys_and_bounded(self, message: str, answer: str):

@@ -222,6 +222,10 @@ class Games(unittest.TestCase):
         # Queries about an earlier position give the same answers as before.
         self.assertEqual((self.game.moves(before, "a"), self.game.is_over(before)), (["go", "stay"], False))
 
+    def test_ground_rules_give_moves_in_their_order(self):
+        game = Game("(role r) (q r b) (legal r c) (legal r b)")
+        self.assertEqual(game.moves(game.position(game.initial), "r"), ["c", "b"])
+
     def test_what_follows_the_moves(self):
         self.assertEqual(set(self.game.following(self.game.position(frozenset({"s"}), self.MOVES))), {("did", "a", "go"), ("did", "b", ("m", "1"))})
 
