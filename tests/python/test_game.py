@@ -59,6 +59,9 @@ CHANGES = [
         "line 4, column 26: no `init` and no `next` gives the term x: (true x)",
         "line 4, column 40: no `init` and no `next` gives the term (y 1): (true (y 1))",
     ]),
+    (None, "(<= (next (step 1)) (does ann gone) (does bob gone))", [
+        "line 11, column 21: no `legal` gives this move: (does ann gone)", "line 11, column 37: no `legal` gives this move: (does bob gone)",
+    ]),
     ("(not (true (step 1)))", "(~ (true (step 1)))", ["line 4, column 22: `(~ _)` has no rule and no fact; did you mean `not`?: (~ (true (step 1)))"]),
     (None, "(init (mark 1)) (init (mark 2))", [
         "line 11, column 1: no condition uses the term (mark 1): (init (mark 1)) (and 1 more like this)",
