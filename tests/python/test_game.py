@@ -171,6 +171,7 @@ class Suspicious(unittest.TestCase):
         for count, end in ((8, "(role a)"), (9, "; and 1 more")):
             said = why_refused(b"(role a) " * count)[0]
             self.assertEqual((said.count("(role a)"), said.endswith(end)), (8, True), said)
+        self.assertEqual(why_refused(b"(role a) (n 1) (n 1)"), [])
 
     def test_where_a_condition_stands(self):
         text = SOUND + "(<= terminal (or (not (a1)) b2)\n  (or (and c3 (not (not d4))) (distinct x y) over) (true (e5 x y)))"
