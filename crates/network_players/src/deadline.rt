@@ -30,6 +30,12 @@ const LAST_MILLIS: u64 = 20;
 /// When the time is over, this many reads may still take bytes that have arrived. Together they can take the longest answer.
 const LOOKS: u32 = 64;
 
+/// If a wait for an answer takes at least this many seconds longer than requested, this computer may have been paused, and an answer lost.
+const PAUSE_SECONDS: u64 = 2;
+
+/// How many seconds longer a message waits in total, because this computer may have been paused.
+const MAX_GRACE_SECONDS: u64 = 120;
+
 /// The time limit of a read whose bytes have arrived, in milliseconds.
 const AT_ONCE_MILLIS: u64 = 1;
 
@@ -103,6 +109,8 @@ pub struct Deadline {
     /// The time that was left when the program last continued after a stop. `None` if it was not stopped since the beginning of the last
     /// attempt to connect.
     pub(crate) stopped_at: Option<Duration>,
+    /// How much longer the message may wait because this computer may have been paused.
+    grace: Duration,
     /// How many reads may still take bytes that have arrived when the time is over.
     looks: u32,
 }
@@ -118,6 +126,7 @@ impl Deadline {
                 seen,
                 left: Duration::from_secs(u64::from(seconds)),
                 stopped_at: None,
+                grace: Duration::from_secs(MAX_GRACE_SECONDS),
                 looks: LOOKS,
             }),
             Err(_) => Err(NO_CLOCK),
@@ -165,6 +174,19 @@ impl Deadline {
         } else {
             Ok(self.left)
         }
+    }
+
+    /// Gives the message at least as much time as a step took that was much longer than requested. If this computer was paused, the player's
+    /// system repeats an answer that was lost. It doubles the time between two attempts, so the next one can take as long as the pause.
+    fn extend(&mut self, asked: Duration, passed: Duration)
+        ensures { as_nanos self.old.left ≤ as_nanos self.new.left }
+    {
+        if passed.saturating_sub(asked) < Duration::from_secs(PAUSE_SECONDS) {
+            return;
+        }
+        let more = passed.saturating_sub(self.left).min(self.grace);
+        self.left = self.left.saturating_add(more);
+        self.grace = self.grace.saturating_sub(more);
     }
 
     /// The next step of a read. Counts a read that takes the bytes that are there.
@@ -277,15 +299,16 @@ fn wait_for_bytes<C: Clock, S: OpenStream>(
         return Ok(Some(ContactFault::Shortage(shortage)));
     }
     for _ in 0..MAX_STEPS {
-        let step = deadline.next_step();
+        let (step, begun) = (deadline.next_step(), deadline.seen);
         let is_there = take_step(clock, stream, &step);
         if let Err(ContactFault::Shortage(shortage)) = deadline.after(clock, step.asked()) {
             return Ok(Some(ContactFault::Shortage(shortage)));
         }
+        deadline.extend(step.asked(), deadline.seen - begun);
         if is_there? {
             return Ok(None);
         }
-        if matches!(step, Step::Looks | Step::Ends) {
+        if matches!(step, Step::Looks | Step::Ends) && deadline.left.is_zero() {
             break;
         }
     }
