@@ -39,9 +39,6 @@ const MAX_GRACE_SECONDS: u64 = 120;
 /// The time limit of a read whose bytes have arrived, in milliseconds.
 const AT_ONCE_MILLIS: u64 = 1;
 
-/// The longest time limit of a later attempt to connect, in seconds. A stop of the program during an attempt is noticed only at its end.
-const LATER_SECONDS: u64 = 2;
-
 /// If a player closes the connection while it has the request only in part, a stop that ended at most this many seconds before may be the reason.
 const RECENT_SECONDS: u64 = 1;
 
@@ -76,12 +73,12 @@ fn share(left: Duration, among: u32) -> Duration
 }
 
 /// The time limit of an attempt to connect to an address. As long as `silent` is 0, there are `untried` addresses, and each gets
-/// only a short time. Then the `silent` addresses that did not answer share the time that is left, and each attempt takes at most two seconds.
-pub(crate) fn try_limit(left: Duration, silent: u32, untried: usize) -> Duration
-    ensures { as_nanos result ≡ try_limit (as_nanos left) silent untried }
+/// only a short time. Then the `silent` addresses that did not answer share the time that is left, and each attempt takes at most `longest`.
+pub(crate) fn try_limit(left: Duration, silent: u32, untried: usize, longest: Duration) -> Duration
+    ensures { as_nanos result ≡ try_limit (as_nanos left) silent untried (as_nanos longest) }
 {
     if silent > 0 {
-        return share(left, silent).min(Duration::from_secs(LATER_SECONDS));
+        return share(left, silent).min(longest);
     }
     let untried = u32::try_from(untried).unwrap_or(u32::MAX);
     first_limit(left).min(share(left, untried.saturating_add(1)))
