@@ -176,14 +176,17 @@ impl Deadline {
     /// Gives the message at least as much time as a step took that was much longer than requested. If this computer was paused, the player's
     /// system repeats an answer that was lost. It doubles the time between two attempts, so the next one can take as long as the pause.
     fn extend(&mut self, asked: Duration, passed: Duration)
-        ensures { as_nanos self.old.left ≤ as_nanos self.new.left }
+        ensures least { as_nanos self.old.left ≤ as_nanos self.new.left }
+        ensures most { as_nanos self.new.left ≤ max (as_nanos self.old.left) (as_nanos passed) }
     {
         if passed.saturating_sub(asked) < Duration::from_secs(PAUSE_SECONDS) {
             return;
         }
-        let more = passed.saturating_sub(self.left).min(self.grace);
-        self.left = self.left.saturating_add(more);
-        self.grace = self.grace.saturating_sub(more);
+        let longer = passed
+            .min(self.left.saturating_add(self.grace))
+            .max(self.left);
+        self.grace = self.grace.saturating_sub(longer.saturating_sub(self.left));
+        self.left = longer;
     }
 
     /// The next step of a read. Counts a read that takes the bytes that are there.
