@@ -28,9 +28,9 @@ share left among = max 1000000 (left / max 1 among)
 
 -- The time limit of an attempt to connect to an address, in nanoseconds. As long as addresses are tried for the first time, it is short: as for a
 -- first attempt, and at most an equal share for each address that is left and for what follows. Then the addresses that did not answer share
--- the time that is left, at most two seconds for each attempt.
-abbrev pub try_limit : ℕ → ℕ → ℕ → ℕ
-try_limit left silent untried = if silent == 0 then min (first_limit left) (share left (min (2 ^ 32 - 1) (untried + 1))) else min 2000000000 (share left silent)
+-- the time that is left, and each attempt takes at most `longest`.
+abbrev pub try_limit : ℕ → ℕ → ℕ → ℕ → ℕ
+try_limit left silent untried longest = if silent == 0 then min (first_limit left) (share left (min (2 ^ 32 - 1) (untried + 1))) else min longest (share left silent)
 
 -- Whether the program was stopped, and continued at most a second before, counted in the time of the message.
 abbrev pub HasStopped : Deadline → Type 0

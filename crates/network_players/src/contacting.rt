@@ -330,20 +330,25 @@ fn connect_to<N: Routes + Clock>(
     connected
 }
 
-/// Tries each of the addresses once, until one accepts a connection. If an address has accepted a connection before, it comes first, and this
-/// tries the others only while this computer lacks a resource other than a network. Without this rule, a player whose host name also has the address of another
-/// player could pass its message on to that player by refusing a connection. On entry, `silent` is the number of addresses that did not answer
-/// in earlier attempts; on return, in these attempts. It is 0 if no further attempts follow.
+/// Tries each of the addresses once, until one accepts a connection. If an address has accepted a connection before, this tries only that one.
+/// Otherwise a player whose host name also has the address of another player could pass its message on to that player. On entry, `silent` is
+/// the number of addresses that did not answer in earlier attempts; on return, in these attempts. It is 0 if no further attempts follow.
+/// Each further attempt at an address takes at most `longest`.
 fn try_each<N: Routes + Clock>(
     net: &N,
     lookup: &mut Lookup,
     deadline: &mut Deadline,
     silent: &mut u32,
+    longest: Duration,
 ) -> Result<N::Stream, ContactFault> {
     let (before, mut now) = (*silent, 0u32);
     *silent = 0;
     let mut fault = ContactFault::NoAddress;
-    let count = lookup.addresses().len();
+    let count = if lookup.has_preferred {
+        1
+    } else {
+        lookup.addresses().len()
+    };
     for place in 0..count {
         let Some(&address) = lookup.addresses().get(place) else {
             break;
@@ -352,12 +357,7 @@ fn try_each<N: Routes + Clock>(
             Ok(left) => left,
             Err(halt) => return Err(fault_so_far(fault, halt)),
         };
-        let untried = if lookup.has_preferred {
-            1
-        } else {
-            count - place
-        };
-        let limit = try_limit(left, before.saturating_sub(now), untried);
+        let limit = try_limit(left, before.saturating_sub(now), count - place, longest);
         let last = match connect_to(net, &address, limit, deadline) {
             Ok(stream) => {
                 lookup.prefer(net, place);
@@ -369,29 +369,26 @@ fn try_each<N: Routes + Clock>(
             ContactFault::Late(_) => now = now.saturating_add(1),
             last => fault = fault_so_far(fault, last),
         }
-        let is_own =
-            matches!(fault, ContactFault::Shortage(shortage) if shortage != Shortage::Network);
-        if lookup.has_preferred && !is_own {
-            break;
-        }
     }
     *silent = now;
     Err(fault)
 }
 
 /// Connects to the first of the addresses that accepts a connection, within the time that is left. Tries addresses that did not
-/// answer again, unless the referee lacked a resource for another address.
+/// answer again, unless the referee lacked a resource for another address. Short attempts show a stop of the program, and long ones reach a
+/// player that is far away, so each attempt may take twice as long as the one before.
 fn connect_once<N: Routes + Clock>(
     net: &N,
     lookup: &mut Lookup,
     deadline: &mut Deadline,
 ) -> Result<N::Stream, ContactFault> {
-    let mut silent = 0;
+    let (mut silent, mut longest) = (0, Duration::from_secs(1));
     for _ in 0..MAX_CONNECTS {
-        let tried = try_each(net, lookup, deadline, &mut silent);
+        let tried = try_each(net, lookup, deadline, &mut silent, longest);
         if silent == 0 || matches!(tried, Err(ContactFault::Shortage(_))) {
             return tried;
         }
+        longest = longest.saturating_mul(2);
     }
     Err(LATE)
 }

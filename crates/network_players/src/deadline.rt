@@ -30,11 +30,14 @@ const LAST_MILLIS: u64 = 20;
 /// When the time is over, this many reads may still take bytes that have arrived. Together they can take the longest answer.
 const LOOKS: u32 = 64;
 
+/// If a wait for an answer takes at least this many seconds longer than requested, this computer may have been paused, and an answer lost.
+const PAUSE_SECONDS: u64 = 2;
+
+/// How many seconds longer a message waits in total, because this computer may have been paused.
+const MAX_GRACE_SECONDS: u64 = 120;
+
 /// The time limit of a read whose bytes have arrived, in milliseconds.
 const AT_ONCE_MILLIS: u64 = 1;
-
-/// The longest time limit of a later attempt to connect, in seconds. A stop of the program during an attempt is noticed only at its end.
-const LATER_SECONDS: u64 = 2;
 
 /// If a player closes the connection while it has the request only in part, a stop that ended at most this many seconds before may be the reason.
 const RECENT_SECONDS: u64 = 1;
@@ -70,12 +73,12 @@ fn share(left: Duration, among: u32) -> Duration
 }
 
 /// The time limit of an attempt to connect to an address. As long as `silent` is 0, there are `untried` addresses, and each gets
-/// only a short time. Then the `silent` addresses that did not answer share the time that is left, and each attempt takes at most two seconds.
-pub(crate) fn try_limit(left: Duration, silent: u32, untried: usize) -> Duration
-    ensures { as_nanos result ≡ try_limit (as_nanos left) silent untried }
+/// only a short time. Then the `silent` addresses that did not answer share the time that is left, and each attempt takes at most `longest`.
+pub(crate) fn try_limit(left: Duration, silent: u32, untried: usize, longest: Duration) -> Duration
+    ensures { as_nanos result ≡ try_limit (as_nanos left) silent untried (as_nanos longest) }
 {
     if silent > 0 {
-        return share(left, silent).min(Duration::from_secs(LATER_SECONDS));
+        return share(left, silent).min(longest);
     }
     let untried = u32::try_from(untried).unwrap_or(u32::MAX);
     first_limit(left).min(share(left, untried.saturating_add(1)))
@@ -103,6 +106,8 @@ pub struct Deadline {
     /// The time that was left when the program last continued after a stop. `None` if it was not stopped since the beginning of the last
     /// attempt to connect.
     pub(crate) stopped_at: Option<Duration>,
+    /// How much longer the message may wait because this computer may have been paused.
+    grace: Duration,
     /// How many reads may still take bytes that have arrived when the time is over.
     looks: u32,
 }
@@ -118,6 +123,7 @@ impl Deadline {
                 seen,
                 left: Duration::from_secs(u64::from(seconds)),
                 stopped_at: None,
+                grace: Duration::from_secs(MAX_GRACE_SECONDS),
                 looks: LOOKS,
             }),
             Err(_) => Err(NO_CLOCK),
@@ -165,6 +171,22 @@ impl Deadline {
         } else {
             Ok(self.left)
         }
+    }
+
+    /// Gives the message at least as much time as a step took that was much longer than requested. If this computer was paused, the player's
+    /// system repeats an answer that was lost. It doubles the time between two attempts, so the next one can take as long as the pause.
+    fn extend(&mut self, asked: Duration, passed: Duration)
+        ensures least { as_nanos self.old.left ≤ as_nanos self.new.left }
+        ensures most { as_nanos self.new.left ≤ max (as_nanos self.old.left) (as_nanos passed) }
+    {
+        if passed.saturating_sub(asked) < Duration::from_secs(PAUSE_SECONDS) {
+            return;
+        }
+        let longer = passed
+            .min(self.left.saturating_add(self.grace))
+            .max(self.left);
+        self.grace = self.grace.saturating_sub(longer.saturating_sub(self.left));
+        self.left = longer;
     }
 
     /// The next step of a read. Counts a read that takes the bytes that are there.
@@ -277,15 +299,16 @@ fn wait_for_bytes<C: Clock, S: OpenStream>(
         return Ok(Some(ContactFault::Shortage(shortage)));
     }
     for _ in 0..MAX_STEPS {
-        let step = deadline.next_step();
+        let (step, begun) = (deadline.next_step(), deadline.seen);
         let is_there = take_step(clock, stream, &step);
         if let Err(ContactFault::Shortage(shortage)) = deadline.after(clock, step.asked()) {
             return Ok(Some(ContactFault::Shortage(shortage)));
         }
+        deadline.extend(step.asked(), deadline.seen - begun);
         if is_there? {
             return Ok(None);
         }
-        if matches!(step, Step::Looks | Step::Ends) {
+        if matches!(step, Step::Looks | Step::Ends) && deadline.left.is_zero() {
             break;
         }
     }

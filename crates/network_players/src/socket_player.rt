@@ -32,7 +32,7 @@ pub struct Sockets<'a, H> {
 }
 
 /// A player on the network. Each message goes over a separate connection to one of the addresses that a lookup has found for its
-/// host. Once one address has accepted a connection, the player uses the others only while this computer lacks a resource.
+/// host. Once one address has accepted a connection, the player uses no other.
 #[derive(Drop)]
 pub struct SocketPlayer<'a, H> {
     rt: &'a H,
