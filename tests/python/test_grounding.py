@@ -259,10 +259,11 @@ class Splitting(unittest.TestCase):
         return ((atom[0] == atom[1]) if literal.same else atom in true) == literal.positive
 
     def test_a_chain_is_split_where_it_says_the_same_with_fewer_variables(self):
-        before = rules("(<= (p ?a ?d) (e ?a ?b) (e ?b ?c) (e ?c ?d))")
-        after = split(before)
-        self.assertEqual(self.width(after), 3)
-        self.assertEqual({head for head in self.heads(after) if head[0] in "pe"}, self.heads(before))
+        for text in "(<= (p ?a ?d) (e ?a ?b) (e ?b ?c) (e ?c ?d))", "(<= (p ?d ?a) (e ?d ?c) (e ?c ?b) (e ?b ?a))":
+            before = rules(text)
+            after = split(before)
+            self.assertEqual(self.width(after), 3)
+            self.assertEqual({head for head in self.heads(after) if head[0] in "pe"}, self.heads(before))
 
     def test_parts_that_say_the_same_have_one_relation(self):
         after = split(rules("(<= (p ?a) (e ?a ?b) (e ?b ?c)) (<= (q ?x) (e ?x ?y) (e ?y ?z))"))

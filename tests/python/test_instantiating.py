@@ -341,6 +341,11 @@ class Texts(unittest.TestCase):
         with contextlib.redirect_stderr(io.StringIO()), unittest.mock.patch.object(making, "FEW_INSTANCES", 20):
             self.assertTrue(making.Making(text, 60, making.WHERE_NEEDED).run().startswith("; split: "))
             self.assertNotIn("split", making.Making(text, 60, making.NEVER).run())
+        # If the first form is far past a limit, no other form is tried.
+        for most, is_split in ((6, False), (7, True)):
+            with unittest.mock.patch.dict(limits.MOST, {"moves": most}), contextlib.redirect_stderr(io.StringIO()) as said:
+                raised(Refused, making.Making(text, 60, making.WHERE_NEEDED).run)
+            self.assertEqual("  split: " in said.getvalue(), is_split, most)
         # After a form that cannot be factored, a form with less than half as many ground rules is tried.
         few, hopeless = {"sentences": 500}, unittest.mock.Mock(side_effect=folding.Hopeless(""))
         with unittest.mock.patch.dict(limits.MOST, few), unittest.mock.patch.dict(limits.LARGE, few), unittest.mock.patch.object(folding, "folded", hopeless):

@@ -123,6 +123,11 @@ class Made(unittest.TestCase):
         self.assertRegex(found, r"^; 1 cycle of sentences is unrolled, the largest, of 2 sentences with \(reach a\), in 2 rounds\n")
         self.assertIn("1 cycle of sentences is unrolled", said)
 
+    def test_the_cycle_of_most_sentences_is_named(self):
+        making_of = Making("", 60, NEVER)
+        making_of.note_circles([("z", 2, 1), ("a", 3, 2), ("b", 2, 1)])
+        self.assertEqual(making_of.notes, ["3 cycles of sentences are unrolled, the largest, of 3 sentences with a, in 3 rounds"])
+
     def test_refusals_have_the_sentence(self):
         for text, words in (
             ("(role r)\n(<= (goal r ?x) (n ?x)) (n big)", "line 2, column 1: (goal r big) can be derived, but its goal is not a number from 0 to 100: (<= (goal r ?x) (n ?x))"),
