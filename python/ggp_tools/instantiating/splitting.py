@@ -78,12 +78,11 @@ def best_part(rule: Rule) -> Part | None:
 
 
 def part_of(inside: tuple[int, ...], head: frozenset[str], named: list[frozenset[str]], binding: list[frozenset[str]]) -> Part | None:
-    """Returns the part with these literals, or None if a variable would be unbound in the part or in the rest, or if the split gains nothing."""
+    """Returns the part with these literals, or None if a variable would be unbound in the part, or if the split gains nothing. In the rest, no variable
+    is unbound, because what the part binds is shared."""
     outside = tuple(at for at in range(len(named)) if at not in inside)
     inner, outer = frozenset().union(*(named[at] for at in inside)), head.union(*(named[at] for at in outside))
     shared = inner & outer
     if shared == inner or not inner <= frozenset().union(*(binding[at] for at in inside)):
-        return None
-    if not outer <= shared.union(*(binding[at] for at in outside)):
         return None
     return Part((max(len(inner), len(outer)), len(inner) + len(outer), len(shared)), inside, outside, shared)
