@@ -78,8 +78,8 @@ def best_part(rule: Rule) -> Part | None:
 
 
 def part_of(inside: tuple[int, ...], head: frozenset[str], named: list[frozenset[str]], binding: list[frozenset[str]]) -> Part | None:
-    """Returns the part with these literals, or None if a variable would be unbound in the part, or if the split gains nothing. In the rest, no variable
-    is unbound, because what the part binds is shared."""
+    """Returns the part with these literals, or None if a variable would be unbound in the part, or if the split gains nothing. No variable of
+    the rest is unbound, because the rest and the part share the variables that occur in both."""
     outside = tuple(at for at in range(len(named)) if at not in inside)
     inner, outer = frozenset().union(*(named[at] for at in inside)), head.union(*(named[at] for at in outside))
     shared = inner & outer
