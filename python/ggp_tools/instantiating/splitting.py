@@ -70,7 +70,7 @@ def best_part(rule: Rule) -> Part | None:
     binding = [them if literal.positive and not literal.same else frozenset() for literal, them in zip(rule.body, named)]
     head, count = frozenset(variables(rule.head)), len(rule.body)
     every = head.union(*named)
-    if not 2 <= count <= MOST_LITERALS or len(every) < FEW_VARIABLES:
+    if count > MOST_LITERALS or len(every) < FEW_VARIABLES:
         return None
     sides = itertools.chain.from_iterable(itertools.combinations(range(count), size) for size in range(1, count))
     parts = (part_of(inside, head, named, binding) for inside in sides)
