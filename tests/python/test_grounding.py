@@ -288,7 +288,7 @@ class Splitting(unittest.TestCase):
         self.assertEqual((FEW_VARIABLES, MOST_LITERALS), (3, 13))
         for text in (
             "(<= (p ?a ?b) (e ?a ?b) (e ?b a))", "(<= (p ?a ?b ?c) (e ?a ?b) (e ?b ?c) (e ?a ?c))", "(<= (p ?a ?c) (e ?a ?b) (p ?b ?d) (e ?d ?c))",
-            "(<= (p ?a) (e ?a ?b) (not (e ?b ?c)) (e ?a ?c))", "(<= (p ?a ?d) (e ?a ?b) (not (e ?b ?c)) (e ?c ?d))", "(<= (p ?a) (e ?a a) (e ?b b))", "(p a b)",
+            "(<= (p ?a) (e ?a ?b) (not (e ?b ?c)) (e ?a ?c))", "(<= (p ?a ?d) (e ?a ?b) (not (e ?b ?c)) (e ?c ?d))", "(<= (p ?a) (e ?a a) (e ?b b))", "(<= (p ?a) (e ?a ?b) (e ?b ?c) (e ?a ?c))", "(p a b)",
         ):
             self.assertEqual(split(rules(text)), rules(text), text)
 

@@ -323,6 +323,8 @@ class Texts(unittest.TestCase):
         for module, name, work in ((making, "all_rules", "reading it"), (limits, "without_high_goals", "putting them in order"), (rounds, "unrolled", "unrolling its cycles")):
             with unittest.mock.patch.object(module, name, lambda *_: signal.raise_signal(signal.SIGPROF)):
                 self.assertRegex(str(raised(Refused, making.Making(text, 60, making.NEVER).run)), f"^stopped after 60 s, {work}(;|$)")
+        with unittest.mock.patch.object(gringo.Grounder, "instances", side_effect=gringo.TooSlow("")):
+            self.assertEqual(str(raised(Refused, making.Making(text, 60, making.NEVER).run)), "stopped after 60 s, finding the ground rules")
 
     def test_rounds_that_are_too_many_are_said(self):
         few = {"sentences": 100}

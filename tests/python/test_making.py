@@ -78,7 +78,7 @@ class Made(unittest.TestCase):
     def test_what_is_past_the_limits_for_large_games_as_it_stands_is_folded_to_within_them(self):
         with mock.patch.dict(limits.MOST, {"sentences": 10}), mock.patch.dict(limits.LARGE, {"sentences": 20}):
             found, _ = made(MANY_TERMS)
-        self.assertRegex(str(found), rf"^; {limits.LARGE_NOTE}\n; factored: 24 ground sentences of \d+ bytes became 15\n")
+        self.assertRegex(str(found), rf"^; {limits.LARGE_NOTE}\n; factored: 24 ground sentences of 406 bytes became 15\n")
 
     def test_a_long_game_is_factored_if_possible(self):
         for most, options, is_factored in ((24, {}, False), (23, {}, True), (15, {"is_large": True}, True), (23, {"wanted": NEVER}, False), (3, {}, False)):
