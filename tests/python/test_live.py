@@ -135,6 +135,8 @@ class Lines(InRoom):
         self.assertEqual(shown(seen), f"red to move: {self.match.players[0]}")
         with patch.object(seen, "is_late", True):
             self.assertEqual(shown(seen), f"{self.match.players[1]}: turn 1")
+            with patch.object(seen.tail, "is_behind", True):
+                self.assertEqual(seen.named(), [0])
         # The time of day in the log may be wrong.
         self.say(log, line(self.match, 1, 2, f"(PLAY {self.match.id} NIL)", SILENT, 5_000, 1_195_000))
         with patch.object(time, "time", lambda: 1_300.0):

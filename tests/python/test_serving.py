@@ -755,6 +755,18 @@ class Delayed(Served):
             states = {row["id"]: row["state"] for row in json.loads(self.page("/api/matches"))["matches"]}
             self.assertEqual([states[match.id] for match in (opened, over) if match.id in states], expected)
 
+    def test_few_plans_wait_until_they_are_shown(self):
+        last = dataclasses.replace(self.plan, matches=self.plan.matches[:-1])
+        for at in range(40):
+            self.moment += 1
+            self.plan.folder.schedule.write_text("x" * at)
+            self.site.read_plan = lambda at=at: last if at == 39 else self.plan
+            self.site.update_plan()
+            self.assertLessEqual(len(self.site.plans), 16)
+        self.moment += 60
+        self.site.update()
+        self.assertEqual((self.site.plan, self.site.plans), (last, []))
+
     def test_an_open_match_that_a_later_plan_lacks(self):
         begin(self.plan, self.plan.matches[-1])
         self.look_at(1)

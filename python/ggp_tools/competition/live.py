@@ -194,8 +194,8 @@ class LiveMatch:
 
     def named(self) -> list[int] | None:
         """Returns the awaited roles that are shown: in the first half of the clock, at most the role whose turn it is, which follows from the
-        state."""
-        if self.is_late:
+        state. If the log is not read to its end, answers may be missing, so no others are shown."""
+        if self.is_late and not self.tail.is_behind:
             return self.awaited()
         mover = None if self.is_ending() else self.board.position.mover()
         return None if mover is None else [mover]
@@ -390,6 +390,7 @@ class Reader:
         while rows := self.journal.added(shown.journal)[0]:
             for row in rows:
                 self.take_row(row)
+            yield
         for name in gone:
             self.update_record(name)
         self.list_records()

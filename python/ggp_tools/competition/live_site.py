@@ -41,6 +41,8 @@ IDLE, MOST_PAGES, MOST_EVENTS, BYTES_OF_EVENTS = 30.0, 200, 60, 1 << 20
 MOST_KEPT, RELOAD = 64 << 20, 10
 # The bytes of the records that are kept parsed, because the page of a long match has several parts.
 MOST_PARSED = 16 << 20
+# How many plans wait until their delay is over. Each takes about 0.3 kB for each match.
+MOST_PLANS = 16
 # A function that the other thread calls.
 Work = Callable[[], bytes | None]
 Value = typing.TypeVar("Value")
@@ -246,7 +248,7 @@ class LiveSite:
         if stamp != self.plan_stamp or self.refusal and began >= self.next_reading:
             self.plan_stamp = stamp
             try:
-                self.plans.append((live.clock(), self.read_plan()))
+                self.add_plan(self.read_plan())
                 self.refusal = ""
             except (Refused, NoReferee, Unchecked, OSError) as why:
                 self.refuse_plan(why)
@@ -271,7 +273,13 @@ class LiveSite:
             self.refusal = refusal
             report(refusal)
             reason = reason_for_visitors(self.plan.folder, why)
-            self.plans.append((live.clock(), f"The plan has changed, but can't be read, so these pages show the previous plan: {reason}"))
+            self.add_plan(f"The plan has changed, but can't be read, so these pages show the previous plan: {reason}")
+
+    def add_plan(self, plan: Plan | str) -> None:
+        """Adds a plan, or the reason why it can't be read, to those that are shown later. If there are many, drops the last one to save memory."""
+        if len(self.plans) == MOST_PLANS:
+            self.plans.pop()
+        self.plans.append((live.clock(), plan))
 
     def is_read(self) -> bool:
         """Returns whether the newest plan can be shown: its records are read, or a match has begun that the pages show as over or as another one. The
