@@ -4,7 +4,7 @@ import itertools
 from collections.abc import Iterator
 
 from ggp_tools.instantiating.limits import refuse_faults
-from ggp_tools.instantiating.rounds import asked, circles
+from ggp_tools.instantiating.rounds import circles
 from ggp_tools.gdl import Relations, Rule, all_rules
 from ggp_tools.kif import Expression, Refused, expressions, grouped, place_of, quoted, starts, told
 
@@ -34,7 +34,7 @@ def cycles(rules: list[Rule]) -> Iterator[list[int]]:
     """Yields the sentences of each cycle of dependencies."""
     for circle in circles(rules):
         atoms = set(circle)
-        yield sorted({rule.sentence for rule in rules if rule.head in atoms and not atoms.isdisjoint(asked(rule))})
+        yield sorted({rule.sentence for rule in rules if rule.head in atoms and not atoms.isdisjoint(literal.atom for literal in rule.body)})
 
 
 def why_refused(text: bytes) -> list[str]:
