@@ -22,7 +22,8 @@ MOST_SHOWN = 160
 # The number at the end of a word.
 DIGITS = "[0-9]+"
 COMMENT = re.compile(r";[^\n]*")
-TOKEN = re.compile(r"[()]|[^\s()]+")
+# Other bytes than those of ASCII belong to an atom, and keep their case, because the letters of UTF-8 contain them.
+TOKEN = re.compile(r"[()]|[^\s()]+", re.ASCII)
 VARIABLE = re.compile(r"(?<![^\s()])\?")
 NO_CHARACTER = re.compile(r"[^\t\n\r\x20-\x7e]")
 
@@ -85,7 +86,7 @@ def expressions(text: str, most_levels: float = MOST_LEVELS, takes_bytes: bool =
             closed = tuple(levels.pop())
             levels[-1].append(closed)
         else:
-            levels[-1].append(known.get(token) or known.setdefault(token, token.lower()))
+            levels[-1].append(known.get(token) or known.setdefault(token, token.encode("latin-1").lower().decode("latin-1")))
     return levels[0]
 
 

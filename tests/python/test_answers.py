@@ -9,7 +9,8 @@ from html_pages import parsed
 from support import GAMES
 
 STATES = [["(heap 2)", "(turn red)"], ["(heap 1)", "(turn blue)"]]
-RECORD = {"states": STATES, "roles": ["red", "blue"]}
+LATER = ["(heap 1)", "(turn red)"]
+RECORD = {"states": [*STATES, LATER], "roles": ["red", "blue"]}
 
 
 def game():
@@ -47,14 +48,16 @@ class Answers(unittest.TestCase):
         self.assertEqual(illegal.moves(0, 1, "IL (take 2)"), "the only legal move was noop; it was legal in the turn before")
         self.assertEqual([illegal.moves(0, 0, error) for error in ("IL ?", "TO", "CE", "RT")], [""] * 4)
         self.assertEqual(Illegal([["(heap"]], ["red"], game).moves(0, 0, "IL noop"), "")
-        self.assertEqual(Illegal([*STATES, ["(heap 1)", "(turn red)"]], ["red", "blue"], game).moves(0, 2, "IL (take 3)"), "the only legal move was (take 1)")
+        self.assertEqual(Illegal([*STATES, LATER], ["red", "blue"], game).moves(0, 2, "IL (take 3)"), "the only legal move was (take 1)")
+        later = Illegal([STATES[0], STATES[0], LATER], ["red", "blue"], game)
+        self.assertEqual(later.moves(0, 2, "IL (take 2)"), "the only legal move was (take 1); it was legal in the turn before")
 
     def test_a_page_tells_of_the_first_illegal_moves(self):
         whys = Whys(RECORD, game, {(1, 0): "a b"})
         self.assertEqual(whys.more(1, 0, "IL ?"), ": a second expression begins at column 3")
         self.assertEqual([whys.more(0, 0, error) for error in ("IL ?", "TO")], [""] * 2)
-        found = [whys.more(0, 0, "IL x") for _ in range(21)]
-        self.assertEqual(found, ["; the 2 legal moves were (take 1), (take 2)"] * 20 + [""])
+        found = [whys.more(0, 2, "IL x") for _ in range(21)]
+        self.assertEqual(found, ["; the only legal move was (take 1)"] * 20 + [""])
         self.assertEqual(Whys(RECORD, None, {}).more(0, 0, "IL x"), "")
 
     def test_a_page_has_them_as_titles(self):

@@ -48,9 +48,10 @@ class Programs(unittest.TestCase):
         self.assertEqual((found.sources, len(found.kept)), ({"i0": 0, "p1": 1, "p2": 3}, 1))
 
     def test_of_what_is_not_settled_only_what_can_be_true_is_derived(self):
-        found = program_of("(d a) (<= (t ?x) (true (c ?x)) (not (true (e ?x))) (d ?x) (not (d b))) (<= (next (c ?x)) (t ?x) (does r ?y))")
-        self.assertEqual(found.text.splitlines()[:5], [
+        found = program_of("(d a) (<= (t ?x) (true (c ?x)) (not (true (e ?x))) (d ?x) (not (d b))) (<= (next (c ?x)) (t ?x) (does r ?y)) (init (c b))")
+        self.assertEqual(found.text.splitlines(), [
             'p0("a").', 'i0(V0) :- p1(("c",V0)), p0(V0), not p0("b").', "p2(V0) :- i0(V0).", 'i1(V0,V1) :- p2(V0), p3("r",V1).', 'p4(("c",V0)) :- i1(V0,V1).',
+            'i2.', 'p5(("c","b")) :- i2.', "p1(T) :- p5(T).", "p1(T) :- p4(T).", "p3(R,M) :- p6(R), p7(R,M).",
         ])
         rule, needed = found.kept[0]
         self.assertEqual((rule.sentence, rule.head, [(literal.positive, literal.atom) for literal in rule.body], list(needed)),
@@ -66,6 +67,7 @@ class Programs(unittest.TestCase):
 
     def test_two_terms_that_are_the_same(self):
         self.assertIn('p1(V0) :- p0(V0), V0 = "a".', program_of("(<= (n ?x) (m ?x) (not (distinct ?x a)))").text)
+        self.assertIn('p1(V0) :- p0(V0), "true" != V0.', program_of("(<= (n ?x) (m ?x) (distinct true ?x))").text)
 
 
 class Read(unittest.TestCase):

@@ -129,6 +129,10 @@ class Circles(unittest.TestCase):
         why = raised(Refused, rounds.unrolled, rules("(<= (p a) q) (<= q (p a) (not (p a)))"))
         self.assertEqual(str(why), "a cycle: q depends on itself through the negation of (p a)")
         self.assertEqual(rounds.unrolled(rules("(<= p q (not r)) (<= q p)"))[1], [("p", 2, 1)])
+        for count, more in ((8, ""), (9, " and 1 more")):
+            why = raised(Refused, rounds.unrolled, rules("(<= p0 (not p1))" + "".join(f"(<= p{at} p{(at + 1) % count})" for at in range(count))))
+            words = f"a cycle: p0 depends on itself through the negation of p1, with p2, p3, p4, p5, p6, p7{more}"
+            self.assertEqual((str(why), why.sentence, why.advice), (words, 0, "use `true` to ask for one of these in the previous state"))
 
     def last(self, text):
         rules_for = self.rules_for(text)
@@ -205,7 +209,7 @@ class Circles(unittest.TestCase):
 
 
 class Told(unittest.TestCase):
-    GROUND = "(role x) (role o) (init a) (<= (next a) p) (next b) (legal x m) (legal o (n 1)) (legal x m)"
+    GROUND = "(role x) (role o) (init a) (<= (next b) p) (next b) (legal x m) (legal o (n 1)) (legal x m)"
 
     def told(self, text, ground=GROUND):
         return text_for_players(expressions(text), [rule.head for rule in rules(ground)]).splitlines()
@@ -224,6 +228,7 @@ class Told(unittest.TestCase):
     def test_and_is_no_word_of_gdl(self):
         for text, wanted in (
             ("(<= p (and q (and r s)) t)", ["(<= p q r s t)"]), ("(<= p (or q r) t)", ["(<= p (or q r) t)"]),
+            ("(<= p (and q (or r s)))", ["(<= p q (or r s))"]), ("(e (and a))", ["(e (and a))"]),
             ("(<= p (or (and q r) s) t)", ["(<= p q r t)", "(<= p s t)"]), ("(<= p (not (and q (distinct ?x a))))", ["(<= p (not q))", "(<= p (not (distinct ?x a)))"]),
             ("(<= p (or (and q (distinct a b)) r) (or s t))", ["(<= p q (distinct a b) (or s t))", "(<= p r (or s t))"]),
             ("(<= p (not (or q (and r s))))", ["(<= p (not q) (not r))", "(<= p (not q) (not s))"]), ("(<= p (and (e (and)) q))", ["(<= p (e (and)) q)"]),
@@ -259,10 +264,11 @@ class Splitting(unittest.TestCase):
         return ((atom[0] == atom[1]) if literal.same else atom in true) == literal.positive
 
     def test_a_chain_is_split_where_it_says_the_same_with_fewer_variables(self):
-        before = rules("(<= (p ?a ?d) (e ?a ?b) (e ?b ?c) (e ?c ?d))")
-        after = split(before)
-        self.assertEqual(self.width(after), 3)
-        self.assertEqual({head for head in self.heads(after) if head[0] in "pe"}, self.heads(before))
+        for text in "(<= (p ?a ?d) (e ?a ?b) (e ?b ?c) (e ?c ?d))", "(<= (p ?d ?a) (e ?d ?c) (e ?c ?b) (e ?b ?a))":
+            before = rules(text)
+            after = split(before)
+            self.assertEqual(self.width(after), 3)
+            self.assertEqual({head for head in self.heads(after) if head[0] in "pe"}, self.heads(before))
 
     def test_parts_that_say_the_same_have_one_relation(self):
         after = split(rules("(<= (p ?a) (e ?a ?b) (e ?b ?c)) (<= (q ?x) (e ?x ?y) (e ?y ?z))"))
@@ -274,11 +280,15 @@ class Splitting(unittest.TestCase):
         after = split(rules("(<= (p ?a) (e ?a a) (e ?b ?c))"))
         self.assertEqual([rule.head for rule in after], ["split1", ("p", "?a")])
 
+    def test_of_all_parts_the_one_that_leaves_the_fewest_variables_is_split(self):
+        after = split(rules("(<= (p ?a) (e ?a ?b) (e ?c ?d) (e ?a ?c))"))
+        self.assertEqual(texts(after), ["(<= (split1 ?0) (e ?0 ?1))", "(<= (p ?a) (e ?a ?c) (split1 ?a) (split1 ?c))"])
+
     def test_what_stays_as_it_is(self):
         self.assertEqual((FEW_VARIABLES, MOST_LITERALS), (3, 13))
         for text in (
             "(<= (p ?a ?b) (e ?a ?b) (e ?b a))", "(<= (p ?a ?b ?c) (e ?a ?b) (e ?b ?c) (e ?a ?c))", "(<= (p ?a ?c) (e ?a ?b) (p ?b ?d) (e ?d ?c))",
-            "(<= (p ?a) (e ?a ?b) (not (e ?b ?c)) (e ?a ?c))", "(p a b)",
+            "(<= (p ?a) (e ?a ?b) (not (e ?b ?c)) (e ?a ?c))", "(<= (p ?a ?d) (e ?a ?b) (not (e ?b ?c)) (e ?c ?d))", "(<= (p ?a) (e ?a a) (e ?b b))", "(<= (p ?a) (e ?a ?b) (e ?b ?c) (e ?a ?c))", "(p a b)",
         ):
             self.assertEqual(split(rules(text)), rules(text), text)
 

@@ -667,8 +667,10 @@ class Pages(unittest.TestCase):
     def test_bytes_beyond_ascii_come_back_as_they_came(self):
         self.seat.page_opens(1)
         self.assertEqual(self.request("POST", "/", b"(START \xff a ((role b)) x y)").status, 400)
-        self.assertEqual(self.post(b"(START M a ((role a) (legal a \xff)) 60 60)"), b"ready")
-        self.assertEqual(self.post(b"(PLAY M NIL)"), b"\xff")
+        # In UTF-8, the bytes of a letter may be a blank or a capital letter of Latin-1.
+        name = b"\xff" + "Åà".encode()
+        self.assertEqual(self.post(b"(START M%s %s ((role %s) (legal %s X%s)) 60 60)" % ((name,) * 5)), b"ready")
+        self.assertEqual(self.post(b"(PLAY M%s NIL)" % name), b"x" + name)
 
 
 class Command(unittest.TestCase):

@@ -125,6 +125,12 @@ class Described(InFolder):
         sums = f"{sum_of(NIM.read_bytes())}  nim.kif\n"
         self.assertEqual((self.folder / "rules/DESCRIPTIONS.sha256").read_text(), sums)
 
+    def test_what_is_suspicious_is_printed_even_if_the_description_is_refused(self):
+        for more, status in ((b"", 0), (b"(goal first x)", 1)):
+            done = subprocess.run([TOP / "python/ggp-instantiate"], input=NIM.read_bytes() + b"(line 1)" + more, capture_output=True)
+            self.assertEqual(done.returncode, status, done.stderr)
+            self.assertIn(b"\n  suspicious: line 25, column 1: the game does not use `(line _)`: (line 1)\n", b"\n" + done.stderr)
+
     def test_what_does_not_fit(self):
         for option, words in (
             ('player_rules = "variables"', 'ground.kif has no variables: use "ground"'), ('described = "ground.kif"', "ground.kif: its description ground.kif has no variables"),

@@ -78,11 +78,14 @@ class Folding(unittest.TestCase):
             self.assertEqual(folding.folded(rules, [target, large]).sentences(), 42, target)
         why = raised(folding.Hopeless, folding.folded, rules, [folding.Target(3, 10), small._replace(work=1)])
         self.assertEqual(str(why), "factoring takes more than 1 steps")
+        game, size = folding.folded(rules, [small]), folding.folded(rules, [small]).bytes()
+        self.assertEqual([game.is_within(folding.Target(*most)) for most in ((20, size), (19, size), (20, size - 1))], [True, False, False])
         # After the last target, the result is returned even if it exceeds the target.
         self.assertEqual(folding.folded(rules, [folding.Target(20, 100)]).sentences(), 20)
 
     def test_what_is_refused_early_has_its_figures(self):
-        text = "(<= (next s) (does r a)) " + " ".join(f"(<= (next {t}) p{k} p{k + 1})" for k, t in enumerate("abcdefgh"))
+        # The rule of `never` is left out, so it counts in no figure.
+        text = "(<= (next s) (does r a)) (<= (next never) (true a) (not (true a))) " + " ".join(f"(<= (next {t}) p{k} p{k + 1})" for k, t in enumerate("abcdefgh"))
         text += " ".join(f"(<= p{k} (true a) (true b{k})) (<= p{k} (not (true c)) (true d{k}) (true e{k}))" for k in range(9))
         rules = all_rules(expressions(text))
         by_dice = dice_game(random.Random(0))
@@ -315,11 +318,13 @@ def least(rules, state):
 class Texts(unittest.TestCase):
     def test_refusals_say_which_sentence_makes_the_most(self):
         text = "(role r) (d 1) (d 2) (d 3) (<= (legal r (m ?a ?b)) (d ?a) (d ?b)) (init s)"
-        first, second = (making.Making(text, 60, making.NEVER) for _ in range(2))
         with unittest.mock.patch.object(gringo, "MOST_INSTANCES", 5):
-            self.assertRegex(str(raised(Refused, first.run)), "^there are more than 5 ground rules; the most ground rules, ")
-        with unittest.mock.patch.object(making, "all_rules", lambda *_: signal.raise_signal(signal.SIGPROF)):
-            self.assertEqual(str(raised(Refused, second.run)), "stopped after 60 s, reading it")
+            self.assertRegex(str(raised(Refused, making.Making(text, 60, making.NEVER).run)), "^there are more than 5 ground rules; the most ground rules, ")
+        for module, name, work in ((making, "all_rules", "reading it"), (limits, "without_high_goals", "putting them in order"), (rounds, "unrolled", "unrolling its cycles")):
+            with unittest.mock.patch.object(module, name, lambda *_: signal.raise_signal(signal.SIGPROF)):
+                self.assertRegex(str(raised(Refused, making.Making(text, 60, making.NEVER).run)), f"^stopped after 60 s, {work}(;|$)")
+        with unittest.mock.patch.object(gringo.Grounder, "instances", side_effect=gringo.TooSlow("")):
+            self.assertEqual(str(raised(Refused, making.Making(text, 60, making.NEVER).run)), "stopped after 60 s, finding the ground rules")
 
     def test_rounds_that_are_too_many_are_said(self):
         few = {"sentences": 100}
@@ -336,4 +341,14 @@ class Texts(unittest.TestCase):
         with contextlib.redirect_stderr(io.StringIO()):
             self.assertNotIn("split", making.Making(text, 60, making.WHERE_NEEDED).run())
         with contextlib.redirect_stderr(io.StringIO()), unittest.mock.patch.object(making, "FEW_INSTANCES", 20):
+            self.assertTrue(making.Making(text, 60, making.WHERE_NEEDED).run().startswith("; split: "))
+            self.assertNotIn("split", making.Making(text, 60, making.NEVER).run())
+        # If the first form is far past a limit, no other form is tried.
+        for most, is_split in ((6, False), (7, True)):
+            with unittest.mock.patch.dict(limits.MOST, {"moves": most}), contextlib.redirect_stderr(io.StringIO()) as said:
+                raised(Refused, making.Making(text, 60, making.WHERE_NEEDED).run)
+            self.assertEqual("  split: " in said.getvalue(), is_split, most)
+        # After a form that cannot be factored, a form with less than half as many ground rules is tried.
+        few, hopeless = {"sentences": 500}, unittest.mock.Mock(side_effect=folding.Hopeless(""))
+        with unittest.mock.patch.dict(limits.MOST, few), unittest.mock.patch.dict(limits.LARGE, few), unittest.mock.patch.object(folding, "folded", hopeless):
             self.assertTrue(making.Making(text, 60, making.WHERE_NEEDED).run().startswith("; split: "))

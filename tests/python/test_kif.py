@@ -33,6 +33,7 @@ class Texts(unittest.TestCase):
 
     def test_characters(self):
         self.assertEqual(expressions("! ~ \t\r\n"), ["!", "~"])
+        self.assertEqual(expressions("À\xa0 \x85B", takes_bytes=True), ["À\xa0", "\x85b"])
         for bad in "\x00\x08\x0b\x1f\x7f\xe9":
             self.assert_fault(f"(a b{bad})", f"a byte that is not a character of KIF: {bad!r}", 4)
 

@@ -53,7 +53,7 @@ class Made(unittest.TestCase):
             "(role r)", "(role s)", "(init (c 1))", "(legal r (m 1))", "(legal r (m 2))", "(legal s (m 1))", "(legal s (m 2))",
             "(<= (next (c 2)) (true (c 1)) (does r (m 1)))", "(<= (next (c 3)) (true (c 2)) (does r (m 2)))", "(<= terminal (true (c 3)))", "(goal r 50)", "(goal s 50)",
         ])
-        self.assertRegex(said, r"^ggp-instantiate: 11 sentences became 12 ground sentences in \d+\.\d\d s\n  goals above 100 are left out")
+        self.assertRegex(said, r"^ggp-instantiate: 11 sentences became 12 ground sentences in \d\d?\.\d\d s\n  goals above 100 are left out")
         self.assertIn("\n  sentences               12 of     8,192\n", said)
         self.assertNotIn("ABOVE", said)
 
@@ -78,7 +78,7 @@ class Made(unittest.TestCase):
     def test_what_is_past_the_limits_for_large_games_as_it_stands_is_folded_to_within_them(self):
         with mock.patch.dict(limits.MOST, {"sentences": 10}), mock.patch.dict(limits.LARGE, {"sentences": 20}):
             found, _ = made(MANY_TERMS)
-        self.assertRegex(str(found), rf"^; {limits.LARGE_NOTE}\n; factored: 24 ground sentences of \d+ bytes became 15\n")
+        self.assertRegex(str(found), rf"^; {limits.LARGE_NOTE}\n; factored: 24 ground sentences of 406 bytes became 15\n")
 
     def test_a_long_game_is_factored_if_possible(self):
         for most, options, is_factored in ((24, {}, False), (23, {}, True), (15, {"is_large": True}, True), (23, {"wanted": NEVER}, False), (3, {}, False)):
@@ -122,6 +122,11 @@ class Made(unittest.TestCase):
         found, said = made(game)
         self.assertRegex(found, r"^; 1 cycle of sentences is unrolled, the largest, of 2 sentences with \(reach a\), in 2 rounds\n")
         self.assertIn("1 cycle of sentences is unrolled", said)
+
+    def test_the_cycle_of_most_sentences_is_named(self):
+        making_of = Making("", 60, NEVER)
+        making_of.note_circles([("z", 2, 1), ("a", 3, 2), ("b", 2, 1)])
+        self.assertEqual(making_of.notes, ["3 cycles of sentences are unrolled, the largest, of 3 sentences with a, in 3 rounds"])
 
     def test_refusals_have_the_sentence(self):
         for text, words in (

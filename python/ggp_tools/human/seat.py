@@ -17,7 +17,7 @@ from ggp_tools.kif import Refused, blanked, expressions, spelled, starts, tokens
 Value = TypeVar("Value")
 
 # The keyword of a message, and the id of its match.
-HEAD = re.compile(r"\s*\(\s*([A-Za-z]+)\s+([^\s()]+)")
+HEAD = re.compile(r"\s*\(\s*([A-Za-z]+)\s+([^\s()]+)", re.ASCII)
 # Answers are sent this many seconds before the referee's clock runs out.
 SPARE = 0.5
 # A referee that is this many seconds late with its next message is considered lost. Then a START from another referee is accepted.
@@ -60,7 +60,7 @@ def members_of(text: str) -> list[str]:
         raise Unread(str(why)) from None
     if not text.endswith(")"):
         raise Unread("a list that is not closed")
-    return [rest[begin:end].strip() for begin, end in itertools.pairwise([*begins, len(rest)])]
+    return [rest[begin:end].rstrip(" \t\r\n") for begin, end in itertools.pairwise([*begins, len(rest)])]
 
 
 def game_of(rules: str) -> Game:

@@ -84,7 +84,7 @@ class Making:
     def __init__(self, text: str, seconds: int, folding_wanted: str, is_split: bool = False, is_large: bool = False) -> None:
         self.text, self.seconds, self.wanted, self.is_split, self.is_large = text, seconds, folding_wanted, is_split, is_large
         self.sentences, self.lines, self.rules, self.grounder, self.work = [], [], [], None, "reading it"
-        self.notes, self.best, self.hopeless, self.known, self.count, self.is_unrolled = [], None, None, [], 0, False
+        self.notes, self.best, self.hopeless, self.known, self.count = [], None, None, [], 0
 
     def run(self) -> str:
         """Returns the ground GDL text, or refuses the description. The limit of processor time applies to this process and to the grounder
@@ -136,7 +136,7 @@ class Making:
 
     def ground_rules_of(self, form: Form) -> list[Rule]:
         """Returns the ground rules of a form, without cycles."""
-        self.notes, self.known, self.is_unrolled = list(form.notes), [], False
+        self.notes, self.known = list(form.notes), []
         rules = self.ground(gringo.LogicProgram(form.rules, Relations(form.rules).unsettled()), form.most)
         if self.hopeless and 2 * len(rules) > self.count:
             raise self.hopeless
@@ -144,7 +144,8 @@ class Making:
         self.work = "unrolling its cycles"
         rules, cycles = rounds.unrolled(rules)
         if cycles:
-            self.is_unrolled = True
+            # From here on, the reason is too many rounds, not too many ground rules.
+            self.grounder = None
             rules = grounding.in_order(grounding.needed(rules))
             self.note_circles([cycle for cycle in cycles if cycle[1] > 1])
             self.know(f"{counted(len(rules), 'ground sentence')}, because {self.notes[-1] if self.notes else 'cycles are unrolled'}")
@@ -192,8 +193,7 @@ class Making:
         # Terms can only grow if the sentence has ground rules.
         if rule and self.grounder and self.grounder.lists_in(rule) > spelled(self.sentences[rule.sentence]).count("("):
             why = f"there are infinitely many ground rules: {why}; ever larger terms come from {self.cited(rule.sentence)}"
-        # After unrolling, the reason is too many rounds, not too many ground rules.
-        if self.grounder and not self.is_unrolled and (largest := self.grounder.largest()):
+        if self.grounder and (largest := self.grounder.largest()):
             why += f"; the most ground rules, {largest[1]:,}, come from {self.cited(largest[0])}"
         return why
 

@@ -14,7 +14,7 @@ out. Two kinds of cycles need fewer rounds:
 from collections.abc import Iterator
 from operator import attrgetter, itemgetter
 
-from ggp_tools.kif import Expression, Refused, atoms, fresh, grouped, quoted, relation
+from ggp_tools.kif import Expression, Refused, atoms, fresh, grouped, quoted
 from ggp_tools.gdl import Literal, Rule, components
 from ggp_tools.printable import counted
 
@@ -25,16 +25,11 @@ MOST_RULES = 2_000_000
 MOST_NAMED = 6
 
 
-def asked(rule: Rule) -> list[Expression]:
-    """Returns the sentences that a rule uses in the same state."""
-    return [literal.atom for literal in rule.body if relation(literal.atom)[0] not in ("true", "does")]
-
-
 def circles(rules: list[Rule]) -> list[list[Expression]]:
     """Returns the cycles: sets of sentences that depend on each other, or single sentences that depend on themselves."""
     graph = {}
     for rule in rules:
-        graph.setdefault(rule.head, {}).update(dict.fromkeys(asked(rule)))
+        graph.setdefault(rule.head, {}).update(dict.fromkeys(literal.atom for literal in rule.body))
     return [component for component in components(graph) if len(component) > 1 or component[0] in graph[component[0]]]
 
 

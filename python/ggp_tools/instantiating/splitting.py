@@ -70,7 +70,7 @@ def best_part(rule: Rule) -> Part | None:
     binding = [them if literal.positive and not literal.same else frozenset() for literal, them in zip(rule.body, named)]
     head, count = frozenset(variables(rule.head)), len(rule.body)
     every = head.union(*named)
-    if not 2 <= count <= MOST_LITERALS or len(every) < FEW_VARIABLES:
+    if count > MOST_LITERALS or len(every) < FEW_VARIABLES:
         return None
     sides = itertools.chain.from_iterable(itertools.combinations(range(count), size) for size in range(1, count))
     parts = (part_of(inside, head, named, binding) for inside in sides)
@@ -78,12 +78,11 @@ def best_part(rule: Rule) -> Part | None:
 
 
 def part_of(inside: tuple[int, ...], head: frozenset[str], named: list[frozenset[str]], binding: list[frozenset[str]]) -> Part | None:
-    """Returns the part with these literals, or None if a variable would be unbound in the part or in the rest, or if the split gains nothing."""
+    """Returns the part with these literals, or None if a variable would be unbound in the part, or if the split gains nothing. No variable of
+    the rest is unbound, because the rest and the part share the variables that occur in both."""
     outside = tuple(at for at in range(len(named)) if at not in inside)
     inner, outer = frozenset().union(*(named[at] for at in inside)), head.union(*(named[at] for at in outside))
     shared = inner & outer
     if shared == inner or not inner <= frozenset().union(*(binding[at] for at in inside)):
-        return None
-    if not outer <= shared.union(*(binding[at] for at in outside)):
         return None
     return Part((max(len(inner), len(outer)), len(inner) + len(outer), len(shared)), inside, outside, shared)
