@@ -175,7 +175,7 @@ def line_of(event: Event) -> bytes:
 
 def whole_lines(file: BinaryIO) -> Iterator[bytes]:
     """Yields the lines of a file from its current position. Skips lines that are too long, and an unfinished last line."""
-    return (line for line, is_whole in limited_lines(file, LONGEST_LINE) if is_whole and line.endswith(b"\n"))
+    return (line for line, _ in limited_lines(file, LONGEST_LINE) if line.endswith(b"\n"))
 
 
 def events(file: BinaryIO) -> Iterator[Event]:

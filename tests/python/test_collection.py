@@ -91,7 +91,8 @@ class Piles(InFolder):
             self.assertEqual((found.file, found.number, found.data, found.record, found.said), ("f", 3, data, record, said))
         self.assertEqual([line_of("f", 1, data).match_id for data in (b'{"matchId":"m"}', b'{"matchId":7}', b"{}", b"7")], ["m", "", "", ""])
         with mock.patch("ggp_tools.records.collection.LONGEST_RECORD", 4):
-            self.assertEqual([line_of("f", 1, data).said for data in (b"{  }", b"{   }")], ["", "it is longer than 16 MiB"])
+            found = [line_of("f", 1, data) for data in (b"{  }", b"{   }")]
+        self.assertEqual([(line.number, line.data, line.said) for line in found], [(1, b"{  }", ""), (1, b"", "it is longer than 16 MiB")])
         self.assertEqual(LONGEST_RECORD, 16 * 1024 * 1024)
 
     def test_lines_of_accounts_are_counted_and_the_others_come_some_megabytes_at_a_time(self):
@@ -189,7 +190,7 @@ class Commands(WithPile):
         rows = [line.split("\t")[1:] for line in said.stdout.splitlines()]
         verdicts = ["lawful", "not lawful: state 1", "lawful"]
         self.assertEqual([row[3] for row in rows[:3]], verdicts)
-        self.assertEqual([row[0] for row in rows], ["1", "3", "4", "5", "6"])
+        self.assertEqual([row[:2] for row in rows], [["1", "m1"], ["3", "m1"], ["4", "m1"], ["5", "-"], ["6", "-"]])
         self.assertEqual([row[2] for row in rows], ["countdown"] * 3 + ["-"] * 2)
         self.assertEqual(said.returncode, 1)
         self.assertEqual(said.stderr, "ggp-records: 2 lawful, 1 not lawful, 1 no record, 1 no game has its roles, 1 call log line skipped\n")

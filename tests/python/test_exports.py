@@ -6,7 +6,8 @@ import types
 import unittest
 
 from ggp_tools.kif import expressions, spelled
-from ggp_tools.records.exports import text_of, times_of
+from ggp_tools.records.collection import Judged, line_of
+from ggp_tools.records.exports import index_row, text_of, times_of, write_pages
 from test_collection import FAULTY as NOT_LAWFUL, LAWFUL, WithPile, record
 from test_facts import LOG, SIX, read
 
@@ -89,6 +90,12 @@ class Files(WithPile):
         self.assertEqual((found["isCompleted"], found["isAborted"], found["moves"]), (False, True, []))
         self.assertFalse({"goalValues", "errors"} & set(found))
         read_match(text)
+        # A record of an unknown game has a page too.
+        replaced = json.loads(WHOLE) | {"errors": [["", ""], ["IL (take 9)", ""]]}
+        write_pages(self.folder / "pages", [Judged(line_of("pile", 1, json.dumps(replaced).encode()), None, "no game has its roles")])
+        self.assertIn(b"(take 9)", (self.folder / "pages/000001-m1.html").read_bytes())
+        judged = types.SimpleNamespace(line=types.SimpleNamespace(match_id="m1"), game=None, verdict="lawful", is_lawful=True)
+        self.assertEqual(index_row(judged, aborted, "page")["players"], [("ann", None), ("bob", None)])
 
     def test_a_text_gives_back_the_moves_and_errors(self):
         """The text of a match is a paragraph: headers, and a row for each turn. A `;` precedes the error of a replaced move."""
@@ -100,6 +107,7 @@ class Files(WithPile):
         headers = dict(re.findall('^\\[(.*) "(.*)"\\]$', texts[0], re.MULTILINE))
         names = {"Match": "m1", "Game": "countdown", "red": "ann", "blue": "bob", "Result": "0-100", "Date": "2026-11-28T06:00:00.900Z"}
         self.assertEqual({name: headers[name] for name in names}, names)
+        self.assertTrue(texts[0].endswith("\n1. (take 1) noop\n2. noop (take 2)"), texts[0])
         for text, found in zip(texts, map(json.loads, (WHOLE, replaced)), strict=True):
             turns = [row.partition(". ")[2].partition(" ; ") for row in text.splitlines() if row[0] != "["]
             self.assertEqual([list(map(spelled, expressions(moves))) for moves, _, _ in turns], found["moves"])

@@ -231,7 +231,7 @@ class Lines(unittest.TestCase):
     def test_several_matches_of_one_id_have_nothing_of_a_log(self):
         self.assert_unknown(TWO_LOGS, BROKEN, LOG.replace('"ms":505', '"ms":506'), LOG)
         facts, other = self.facts(LOG), {**BROKEN, "playClock": 6}
-        data = [json.dumps(facts.of(self.judged(record))).encode() for record in (BROKEN, BROKEN, other)]
+        data = [json.dumps(facts.of(self.judged(record))).encode() for record in (BROKEN, BROKEN, other, {**other, "players": ["ann", "eve"]})]
         self.assertEqual(facts.faults, {"m1": TWO_RECORDS})
         for fact in map(json.loads, map(facts.without_log, data)):
             self.assertEqual((fact["begin"], fact["end"], fact["host"], fact["messages"]), (None,) * 4)
@@ -255,6 +255,7 @@ class Lines(unittest.TestCase):
     def test_the_number_of_an_asked_abort_is_not_known(self):
         record = {**RECORD, "endMarks": ["CE", None], "startMarks": ["", None], "phase": "aborted", "cause": "asked", "goalValues": []}
         self.assertEqual(self.of(record)["broken"], [{"role": 0, "message": None, "why": None}])
+        self.assertIsNotNone(self.of({**record, "endMarks": ["CE", ""], "startMarks": ["", ""]}, "".join(LINES[:3]))["messages"])
 
     def test_a_match_that_is_not_over_has_no_end(self):
         record = {**RECORD, "phase": "playing", "moves": [["(take 1)", "noop"]], "errors": [["", ""]], "endMarks": [None, None], "goalValues": []}

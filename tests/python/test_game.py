@@ -13,6 +13,7 @@ import pytest
 
 from ggp_tools.competition.game import aborted_line, report_figures
 from ggp_tools.descriptions.goals import goals_said
+from ggp_tools.descriptions.refused import why_refused
 from ggp_tools.descriptions.suspicious import suspicions
 from support import COMMAND, GAMES, InFolder, program, program_but, run, run_into_full
 
@@ -58,12 +59,20 @@ CHANGES = [
         "line 4, column 26: no `init` and no `next` gives the term x: (true x)",
         "line 4, column 40: no `init` and no `next` gives the term (y 1): (true (y 1))",
     ]),
+    (None, "(<= (next (step 1)) (does ann gone) (does bob gone))", [
+        "line 11, column 21: no `legal` gives this move: (does ann gone)", "line 11, column 37: no `legal` gives this move: (does bob gone)",
+    ]),
+    ("(not (true (step 1)))", "(~ (true (step 1)))", ["line 4, column 22: `(~ _)` has no rule and no fact; did you mean `not`?: (~ (true (step 1)))"]),
     (None, "(init (mark 1)) (init (mark 2))", [
         "line 11, column 1: no condition uses the term (mark 1): (init (mark 1)) (and 1 more like this)",
     ]),
     (None, "(line 1) (<= (base (step 1)) (n 1)) (n 1)", ["line 11, column 1: the game does not use `(line _)`: (line 1)"]),
     (None, "(over 1)", ["line 11, column 1: the game does not use `(over _)`, only for `over`: (over 1)"]),
     (None, "(n 1) (<= terminal (n 2))", ["line 11, column 20: no rule and no fact gives this: (n 2)"]),
+    (None, "(n 1) (<= (line 1) (n 2))", [
+        "line 11, column 1: the game does not use `(n _)`: (n 1)", "line 11, column 11: the game does not use `(line _)`: (line 1)",
+        "line 11, column 20: no rule and no fact gives this: (n 2)",
+    ]),
     (None, "(sees ann bob)", [
         "line 11, column 1: `sees` belongs to GDL-II, for games with chance or hidden information; here each role sees every move:"
         " (sees ann bob)",
@@ -110,8 +119,11 @@ class Suspicious(unittest.TestCase):
         said = "eve is not a role, but a fact of the ground rules has it"
         self.assertEqual(lines_of(text.encode(), ground + eve), [f"line 3, column 5: {said}: (legal eve x) (and 1 more like this)"])
         self.assertEqual(lines_of(text.encode() + b"(<= (legal ?any x) (role ?any))", ground + eve[:14]), [f"{said}: (legal eve x)"])
+        others = b"(<= (legal ?any x) (role ?any)) (<= (legal ?any z) (role ?any))"
+        self.assertEqual(lines_of(text.encode() + others, ground + eve[14:]), [f"line 3, column 5: {said}: (legal eve y)"])
         # A sentence whose rule could hold in some state may be false in all states that are reached.
         self.assertEqual(lines_of(text.encode(), ground + b"(<= (legal eve x) (true (cell 1)))"), [])
+        self.assertEqual(lines_of(f"{OPEN}(goal eve 1)".encode(), ground), ["line 8, column 1: eve is not a role: (goal eve 1)"])
         self.assertEqual(lines_of(SOUND.encode(), SOUND.encode() + eve), [])
 
     def test_a_move_that_no_player_can_make(self):
@@ -154,6 +166,12 @@ class Suspicious(unittest.TestCase):
             found = lines_of(" ".join(text).encode())
             self.assertLess(time.process_time() - began, 15)
             self.assertTrue(any(words in line for line in found), found)
+
+    def test_of_sentences_that_conflict_eight_are_listed(self):
+        for count, end in ((8, "(role a)"), (9, "; and 1 more")):
+            said = why_refused(b"(role a) " * count)[0]
+            self.assertEqual((said.count("(role a)"), said.endswith(end)), (8, True), said)
+        self.assertEqual(why_refused(b"(role a) (n 1) (n 1)"), [])
 
     def test_where_a_condition_stands(self):
         text = SOUND + "(<= terminal (or (not (a1)) b2)\n  (or (and c3 (not (not d4))) (distinct x y) over) (true (e5 x y)))"
@@ -273,9 +291,11 @@ class Game(InFolder):
             ("ann", [], f"no sentence gives ann a goal value in this state; the sentences about goals are {rule} and {fact} and sentence 2, line 2: (goal (o 1) 5)"),
             ("ann", ["(won 150)"], f"ann has the goal value 150 (not a number from 0 to 100), by {rule}"), ("bob", ["(won 1)"], f"bob has the goal value 5, by {fact}"),
             ("ann", ["(won 9)", "(won (a))", "(won 7)", "(won 8)"], f"ann has 4 goal values in this state: (a) (not a number from 0 to 100), by {rule}; 7, by {rule}; 8, by {rule}"),
+            ("ann", ["(won 9)", "(won 7)"], f"ann has 2 goal values in this state: 7, by {rule}; 9, by {rule}"),
             ("(o 1)", [], "(o 1) has the goal value 5, by sentence 2, line 2: (goal (o 1) 5)"),
         ):
             self.assertEqual(goals_said(goals, role, state), words)
+        self.assertTrue(goals_said("(role ann)" + "".join(f"(goal bob {at})" for at in range(5)), "ann", []).endswith("(goal bob 2) and 2 more"))
         self.assertEqual(goals_said("(role", "ann", []), "")
         self.assertEqual(goals_said("(role ann)", "ann", []), "no sentence gives ann a goal value in this state; no sentence is about goals")
 

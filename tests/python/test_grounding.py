@@ -90,7 +90,7 @@ class Dependence(unittest.TestCase):
         for (name, head), (other, body) in itertools.product(heads.items(), asked.items()):
             for text, by, sentence in (
                 (f"(<= {head} {body})", "", 0), (f"(<= x {body}) (<= {head} (not y)) (<= y x)", ", through y, x", 0),
-                (f"(<= {head} y) (<= x w) (<= x {body}) (<= y z (not x) z) (<= z y)", ", through y, x", 2),
+                (f"(<= {head} y) (<= x w) (<= x w {body}) (<= y z (not x) z) (<= z y)", ", through y, x", 2),
             ):
                 # The grounder and the interpreter refuse the same descriptions.
                 for ask in (lambda: Relations(rules(text)).refuse_dependence(), lambda: Game(text)):

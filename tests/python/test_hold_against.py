@@ -106,6 +106,9 @@ class Streams(InFolder):
             with mock.patch.object(resource, "getrlimit", lambda _, limits=limits: limits), mock.patch.object(resource, "setrlimit") as limited:
                 limit_memory()
             self.assertEqual(limited.call_args.args, (resource.RLIMIT_AS, (wanted, limits[1])), limits)
+        with mock.patch.multiple(command, limit_memory=mock.DEFAULT, arguments=mock.DEFAULT, perform=lambda _: 7) as called:
+            self.assertEqual(command.main(), 7)
+        called["limit_memory"].assert_called_once_with()
 
     def test_lines_that_are_not_empty(self):
         files = [self.folder / name for name in "abc"]

@@ -4,6 +4,7 @@ import contextlib
 import json
 import subprocess
 import sys
+import tempfile
 import unittest
 from unittest import mock
 
@@ -73,6 +74,9 @@ class Followed(unittest.TestCase):
         said = "after turn 1 the record lacks t, which sentence 5, line 1: (<= (next t) (does ann go)) gives and sentence 8, line 1: (<= (next t) (true s) (does bob wait)) gives"
         self.assertEqual(self.words(text, moves=[("go", "wait")], states=[["s"], ["u"]]), said)
         self.assertIsNone(self.words(text, moves=[("go", "wait")], states=[["s"], ["t", "u"]]))
+        ruled = "(player ann) (player bob) (<= (role ?x) (player ?x)) (init s) (legal ann go) (legal bob wait) (<= (next t) (does ann go))"
+        said = "after turn 1 the record lacks t, which sentence 6, line 1: (<= (next t) (does ann go)) gives"
+        self.assertEqual(self.words(ruled, moves=[("wait", "go")], states=[["s"], []], roles=("bob", "ann")), said)
 
     def test_answers_that_were_not_taken(self):
         text = f"{self.RULES} (legal ann stay) (<= (next s) (true s))"
@@ -261,6 +265,7 @@ class Described(unittest.TestCase):
     def test_what_is_no_description(self):
         for text, words in (
             ("(role a)\n(<= (legal a ?m) (does a ?m))", "line 2, column 1: legal depends on does: (<= (legal a ?m) (does a ?m)); let `next` record what the moves did, and read that with `true`"),
+            ("(role a)\n(init \xe9)", "line 2, column 7: a byte that is not a character of KIF: '\xe9'; write it in ASCII, or in a comment"),
             ("(role a)\n" + "(" * 70_000, "line 2, column 65: lists are nested more than 64 deep"),
             ("(role a)\n(<= p " + "(not " * 70_000 + "q" + ")" * 70_001, "line 2, column 322: lists are nested more than 64 deep"),
         ):
@@ -313,7 +318,13 @@ class Command(unittest.TestCase):
         status, said, _ = self.run_it(nim, data=wrong + b"\n" + record)
         self.assertEqual((status, said[-1], said[0][:40]), (1, "the same: 0 turns", "differs: the first state lacks (heap a 1"))
         self.assertEqual([self.run_it(nim, data=data)[0] for data in (b"{}", b"{}\n" + record, b"{}\n" + wrong + b"\n{}", b"")], [3, 3, 1, 0])
-        self.assertEqual(self.run_it("--seconds", "0.000001", GAMES / "general/large/fullchess.kif", data=record)[0], 3)
+        # The timer fires at a tick of the clock. Even on a busy computer, this description takes many ticks.
+        chain = "".join(f"(after {at} {at + 1})" for at in range(700))
+        text = f"(role first) (role second) {chain} (<= (far ?x ?y) (after ?x ?y)) (<= (far ?x ?z) (far ?x ?y) (after ?y ?z)) (<= (init ?x) (far ?x ?x))"
+        with tempfile.NamedTemporaryFile("w") as slow:
+            slow.write(text)
+            slow.flush()
+            self.assertEqual(self.run_it("--seconds", "0.000001", slow.name, data=record)[0], 3)
         self.assertEqual(self.run_it(nim.with_name("none.kif"), data=record)[0], 2)
         self.assertEqual(self.run_it("--seconds", "0", nim, data=record)[0], 2)
         self.assertEqual(self.run_it(TOP / "README.md", data=record)[0], 3)

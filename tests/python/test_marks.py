@@ -38,6 +38,7 @@ class Glyphs(unittest.TestCase):
         self.assertEqual((shown("x", "wall")["wall"], shown("w", "b", "wall")["wall"], shown("big spade")), (("wall", ""), ("wall", ""), {"big spade": ("big\u2026de", "")}))
         self.assertEqual((shown("blank"), shown("empty")), ({"blank": ("\u00b7", "")}, {"empty": ("\u00b7", "")}))
         self.assertEqual((shown("2 spades"), shown("clubs_ace")), ({"2 spades": ("2\u2660", "")}, {"clubs_ace": ("A\u2663", "")}))
+        self.assertEqual((shown("1 club"), shown("11 club")), ({"1 club": ("1 club", "")}, {"11 club": ("11 \u2026ub", "")}))
 
     def test_stones_marks_and_cards(self):
         self.assertEqual(shown("white", "red"), {"white": (STONE, "white"), "red": (STONE, "red")})
@@ -78,7 +79,7 @@ class Texts(unittest.TestCase):
 
     def test_no_two_look_alike(self):
         long = [f"{'a' * 40}{number:012b}{'c' * 40}" for number in range(3_000)]
-        others = ["aa\u20261", "\u2026aa", "king", "king ", "b", "x", "o", "", "white", "aaaaaac", "aaaaabc"]
+        others = ["aa\u20261", "\u2026aa", "king", "king ", "b", "x", "o", "", "white", "aaaaaac", "aaaaabc", "aabbbb123", "aabbbb523"]
         marks = marks_of([*long, *others])
         self.assertEqual(len(set(marks.values())), len(marks))
         self.assertLessEqual(max(len(marks[text].text) for text in long), LONGEST + 2)

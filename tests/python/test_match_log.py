@@ -37,6 +37,7 @@ class Lines(unittest.TestCase):
     def test_a_message_is_written_as_the_referee_writes_it(self):
         wanted = b'{"event":"message","match":"m1","role":0,"player":"ann","number":3,"kind":"PLAY","round":1,"time":1764447301123,"ms":12,'
         self.assertEqual(LINE, wanted + b'"message":"(PLAY m1 (a b))","answer":"a","error":null,"reason":null}\n')
+        self.assertIn(rb'"message":"\"\\\u001b\u00ff"', line_of(replace(MESSAGE, message='"\\\x1b\xff')))
 
     def test_each_event_is_read_as_it_was_written(self):
         self.assertEqual({type(event) for event in (MESSAGE, *OTHERS)}, {*NAMES, Other})
@@ -123,6 +124,7 @@ class Texts(unittest.TestCase):
             "m1 open 1970-01-01T00:00:00.005Z", "m1 open", "m1 end STOP 1970-01-01T00:00:00.006Z", "m1 host me@there:22", "m1 absent 0 ann",
             "m1 ? no record refused badid", "left out 12", "log ggp_manager 0.3.0", "m1 lost ssh: gone", "m1 held",
         ])
+        self.assertEqual(text_of(Other("odd", {"match": 5})), "5 odd")
 
     @given(TEXTS, TEXTS)
     def test_nothing_that_a_terminal_obeys_and_bounded(self, message: str, answer: str):

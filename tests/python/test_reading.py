@@ -222,6 +222,10 @@ class Games(unittest.TestCase):
         # Queries about an earlier position give the same answers as before.
         self.assertEqual((self.game.moves(before, "a"), self.game.is_over(before)), (["go", "stay"], False))
 
+    def test_ground_rules_give_moves_in_their_order(self):
+        game = Game("(role r) (q r b) (legal r c) (legal r b)")
+        self.assertEqual(game.moves(game.position(game.initial), "r"), ["c", "b"])
+
     def test_what_follows_the_moves(self):
         self.assertEqual(set(self.game.following(self.game.position(frozenset({"s"}), self.MOVES))), {("did", "a", "go"), ("did", "b", ("m", "1"))})
 
@@ -247,7 +251,9 @@ class Compiled(unittest.TestCase):
 
     def moves(self, text):
         game = Game(f"(role r) (init s) {text}")
-        return sorted(game.moves(game.position(game.initial), "r"))
+        first, second = (sorted(game.moves(game.position(game.initial), "r")) for _ in range(2))
+        self.assertEqual(first, second)
+        return first
 
     def test_lists_are_told_apart_by_all_their_members(self):
         facts = "(p (f a)) (p (g b)) (p (f c d)) (p e) (h (f a c)) (h (f b d)) (h (g a e))"
@@ -258,6 +264,9 @@ class Compiled(unittest.TestCase):
 
     def test_moves_that_depend_on_others(self):
         self.assertEqual(self.moves("(e a b) (e b c) (e d f) (legal r x) (<= (legal r a) (true s)) (<= (legal r ?x) (legal r ?y) (e ?y ?x))"), ["a", "b", "c", "x"])
+        # In ground GDL, each sentence of `legal` is also a relation that conditions can ask for.
+        self.assertEqual(self.moves("(legal r a) (<= (legal r b) (legal r a)) (<= (legal r c) (not (legal r a)))"), ["a", "b"])
+        self.assertEqual(self.moves("(q a) (<= p (q a)) (<= (legal r a) p) (<= (legal r b) (not p))"), ["a"])
 
     def test_who_makes_no_move_has_done_nothing(self):
         game = Game("(role r) (init s) (legal r m) (<= (next (did ?m)) (does nobody ?m)) (<= (next (done ?m)) (does r ?m))")

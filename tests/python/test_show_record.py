@@ -247,6 +247,9 @@ def test_boards_of_hexagons(places: list[tuple[int, int]], is_hex: bool, lean: i
     page = parsed(show.page_of({**example("countdown"), "moves": [], "errors": [], "states": [first]}, frame=show.Frame(named=named)))
     cells = [tuple(map(int, re.findall("[0-9]+", cell["style"]))) for cell in page.select(".hex i")]
     assert cells == (sorted(places) if lean else [])
+    for shape in page.select(".hex"):
+        ends = [2 * x + lean * y for x, y in (map(int, re.findall("[0-9]+", part["style"])) for part in shape.select("i, b:not(.row)"))]
+        assert f"--shift:{min(ends) - 2};--halves:{max(ends) - min(ends) + 2}" in shape["style"]
 
 
 @pytest.mark.parametrize(("state", "count"), FORMS)
@@ -288,12 +291,30 @@ def test_which_moves_are_those_of_a_role_that_waits() -> None:
 def test_what_was_in_the_state_before_is_gone() -> None:
     states = [["(step 1)", "(x)"], ["(step 2)", "(x)"], []]
     assert [(state["terms"], state["gone"]) for state in show.states_of_page(states, [])] == [(states[0], []), (states[1], ["(step 1)"]), ([], ["(step 2)", "(x)"])]
+    assert [state["gone"] for state in show.states_of_part(states, range(1, 3), [], show.Named())] == [["(step 1)"], ["(step 2)", "(x)"]]
 
 
 def test_the_ground_of_a_board_is_on_more_than_half_of_all_places() -> None:
     state = ["(cell 1 1 b)", "(cell 1 2 b)", "(cell 2 1 b)", "(cell 2 2 x)"]
     (board,) = show.boards_of([state])
     assert [show.ground_of(board, show.board_places(board, own)) for own in (state, ["(cell 1 1 x)", *state[1:]], state[:3])] == ["b", None, None]
+    # All states have the ground of the first one.
+    swapped = [term.translate(str.maketrans("xb", "bx")) for term in state]
+    assert [len(parsed(shown["boards"]).select(".ground")) for shown in show.states_of_page([state, swapped], [])] == [3, 1]
+
+
+@pytest.mark.parametrize(("move", "count"), [("noop", 0), ("(mark 1 2)", 1)])
+def test_a_board_that_no_state_shows_has_places_that_moves_name(move: str, count: int) -> None:
+    rules = f"(init (cell 1 1 b)) (next (cell 2 2 b)) (legal r {move})"
+    assert len(show.boards_of([[]], show.named_in(rules.encode(), False))) == count
+
+
+def test_if_rules_have_too_many_names_boards_keep_their_shape(monkeypatch: pytest.MonkeyPatch) -> None:
+    named = show.named_in(b"(init (cell 1 1 b))", True)
+    for most in (1, 0):
+        monkeypatch.setattr(show, "MOST_READ", most)
+        found = show.quick(named)
+        assert (len(found.terms), found.is_hex) == (most, True)
 
 
 def test_an_axis_has_2_to_32_places() -> None:

@@ -8,8 +8,8 @@ import subprocess
 import sys
 
 import pytest
-from ggp_tools.streams import Ended, error_words, opened, put_bytes, report, say, seconds, status_of
-from support import TOP
+from ggp_tools.streams import Ended, address, error_words, opened, put_bytes, report, say, seconds, status_of, whole
+from support import TOP, raised
 
 FULL = OSError(errno.ENOSPC, "No space left on device", "file")
 
@@ -24,6 +24,13 @@ def test_a_number_of_seconds(text, wanted):
     with pytest.raises(argparse.ArgumentTypeError) as why:
         seconds(text)
     assert str(why.value) == f"{text} is not a number above 0 and up to 1,000,000"
+
+
+def test_whole_numbers_and_addresses():
+    assert [whole(1, 9)(text) for text in "19"] == [1, 9]
+    assert [address(text) for text in ("::1", "192.0.2.7")] == ["::1", "192.0.2.7"]
+    for parse, text in (*((whole(1, 9), text) for text in ("0", "10", "x", "", "\u0663")), (address, "localhost")):
+        assert str(raised(argparse.ArgumentTypeError, parse, text)).endswith(f", found {ascii(text)}")
 
 
 @pytest.mark.parametrize(("error", "words"), [(FULL, "file: No space left on device"), (OSError(5, "Input/output error"), "Input/output error"), (OSError("odd"), "odd")])

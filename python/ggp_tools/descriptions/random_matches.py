@@ -80,7 +80,7 @@ def named(cause: str | None, roles: list[Expression]) -> str | None:
 class RandomMatches:
     """Random matches of one game, each with its own seed."""
 
-    def __init__(self, rules: bytes, referee: Referee, name: str, reporter: Reporter, seconds: float | None) -> None:
+    def __init__(self, rules: bytes, referee: Referee, name: str, reporter: Reporter, seconds: float) -> None:
         self.game, self.rules, self.referee, self.name = Game(rules.decode("latin-1")), rules, referee, name
         self.reporter, self.seconds, self.until = reporter, seconds, time.monotonic() + seconds
         self.causes, self.ended, self.differing, self.uncompared, self.too_long, self.notes = {None}, [], [], 0, 0, []

@@ -397,7 +397,7 @@ class Suspicions(NamedTuple):
     cut: str
 
 
-def suspicions(text: bytes, ground: bytes | None = None, seconds: float | None = math.inf) -> Suspicions:
+def suspicions(text: bytes, ground: bytes | None = None, seconds: float = math.inf) -> Suspicions:
     """Returns the suspicious sentences of a description in the order of the text. `ground` is the text of its ground rules, if it was accepted. The
     search stops after the time limit."""
     findings, why = [], ""

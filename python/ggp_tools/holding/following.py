@@ -12,7 +12,7 @@ from .reading import GOAL, INIT, LEGAL, NEXT, TERMINAL, NotFollowed, Term, term_
 
 # At most this many differences of each kind are reported.
 MOST_TOLD = 5
-ILLEGAL, UNREADABLE = "IL ", "IL ?"
+ILLEGAL = "IL "
 
 
 class Differs(Exception):
@@ -110,7 +110,8 @@ class Following:
         replaces any answer, it must be the first legal move."""
         if not self.game.is_legal(position, role, move):
             raise Differs(f"{when}: the record plays {quoted(move)}, which is not legal according to the description")
-        if error.startswith(ILLEGAL) and error != UNREADABLE:
+        if error.startswith(ILLEGAL):
+            # The `?` of an answer that is not one expression is never legal.
             answer = self.term(error.removeprefix(ILLEGAL))
             if self.game.is_legal(position, role, answer):
                 sources = self.cited(LEGAL, (role, answer), position.state)
@@ -130,10 +131,8 @@ class Following:
 
     def least_place(self, role: str, move: Term) -> tuple[int, tuple]:
         """Returns the earliest possible place of a move: the place of the first sentence that could derive the move in some state."""
-        for number, rules in self.game.by_sentence(LEGAL).items():
-            if any(fits(rule.arguments, (role, move), {}) for rule in rules):
-                return number, place(move)
-        raise NotFollowed(f"no head of a sentence fits the legal move {quoted(move)}")
+        by_sentence = self.game.by_sentence(LEGAL).items()
+        return next(number for number, rules in by_sentence if any(fits(rule.arguments, (role, move), {}) for rule in rules)), place(move)
 
     def greatest_place(self, position: Position, role: str, move: Term) -> tuple[int, tuple]:
         """Returns the latest possible place of a move: the place of the first sentence that has derived the move so far."""

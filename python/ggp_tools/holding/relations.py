@@ -35,7 +35,7 @@ class Relations:
         """Classifies relations that depend on each other. All other relations that these relations use have already been classified."""
         if any(asked in self.timely for relation in group for asked in self.asks[relation]):
             self.timely |= group
-        if len(group) == 1 and not group & self.asks[next(iter(group))].keys():
+        if not group & self.asks[next(iter(group))].keys():
             return
         denied = {asked.relation for relation in group for rule in self.rules[relation] for asked in all_asked(rule.body) if not asked.positive}
         if denied & group:

@@ -45,7 +45,6 @@ class Fault(Exception):
     """Ends the check with a message and an exit status."""
 
     def __init__(self, said: bytes, status: int = 2) -> None:
-        super().__init__(said)
         self.said, self.status = said, status
 
 
