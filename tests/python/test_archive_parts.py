@@ -328,8 +328,9 @@ class Commands(Made):
         self.publish()
         wrong = self.room / "wrong.tar.gz"
         wrong.write_bytes(without("cup/table.csv")(files_of(self.path)))
-        for paths in (self.path, wrong), (wrong, self.path):
-            self.assertEqual(self.ran("check", *paths), (1, f"ggp_competition: {wrong}: table.csv is missing\n"))
+        for paths in (self.path, wrong), (wrong, self.path), (wrong, wrong):
+            said = f"ggp_competition: {wrong}: table.csv is missing\n" * paths.count(wrong)
+            self.assertEqual(self.ran("check", *paths), (1, said))
         self.assertEqual(self.ran("check", self.path, self.path), (0, ""))
         self.assertEqual(str(raised(Refused, self.ran, "check", self.path, self.room / "none")), f"{self.room / 'none'} does not exist")
 

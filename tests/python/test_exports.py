@@ -116,7 +116,7 @@ class Files(WithPile):
 
     def test_a_header_has_the_name_of_a_role_without_other_characters(self):
         roles = ["[\"><img", "<img"]
-        judged = types.SimpleNamespace(game=types.SimpleNamespace(name="g"), line=types.SimpleNamespace(record=json.loads(WHOLE) | {"roles": roles}, data=b""))
+        judged = types.SimpleNamespace(game=types.SimpleNamespace(name="g\xf6"), line=types.SimpleNamespace(record=json.loads(WHOLE) | {"roles": roles}, data=b""))
         rows = text_of(judged, []).splitlines()
-        self.assertEqual(rows[2:4], ['[____img "ann"]', '[_img "bob"]'])
+        self.assertEqual(rows[1:4], ['[Game "g\\u00f6"]', '[____img "ann"]', '[_img "bob"]'])
         self.assertEqual([row for row in rows if row[0] == "[" and not re.fullmatch(r'\[[A-Za-z0-9_]+ "[^"]*"\]', row)], [])

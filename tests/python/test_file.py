@@ -142,7 +142,7 @@ class CompetitionFile(unittest.TestCase):
         found = read_competition(GOOD.encode())
         self.assertEqual((found.name, found.strikes, found.launcher), ("cup", 3, Launcher(("srun", "-N1"), 9)))
         self.assertEqual([(player.name, player.place(), player.concurrent) for player in found.players][1:], [("bob", "bob@[::1]:9148", 1), ("cid", "cid@host.example:9149", 3)])
-        self.assertEqual([(game.name, game.start, game.play) for game in found.games], [("chess", 30, 10), ("go", 30, 10)])
+        self.assertEqual([(game.name, game.start, game.play, game.instantiate) for game in found.games], [("chess", 30, 10, 60), ("go", 30, 10, 60)])
 
     def test_a_player_with_a_command(self):
         started = 'command = ["x", "--at", "{port}"]\ndirectory = "d"\nenvironment = {A = "1", B = ""}\nmemory = "512M"\nprocessors = 2\nrestart = "each_match"\nstart_seconds = 30'

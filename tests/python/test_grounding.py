@@ -271,10 +271,11 @@ class Splitting(unittest.TestCase):
             self.assertEqual({head for head in self.heads(after) if head[0] in "pe"}, self.heads(before))
 
     def test_parts_that_say_the_same_have_one_relation(self):
-        after = split(rules("(<= (p ?a) (e ?a ?b) (e ?b ?c)) (<= (q ?x) (e ?x ?y) (e ?y ?z))"))
+        after = split(rules("(<= (p ?a) (e ?a ?b) (e ?b ?c)) (<= (q ?x) (e ?x ?y) (e ?y ?z)) (<= (r ?z) (e ?x ?y) (e ?y ?z))"))
         names = {head[0] for head in (rule.head for rule in after)}
-        self.assertEqual(names, {"p", "q", "split1"})
-        self.assertEqual(len(after), 3)
+        # The part of the third rule shares another variable.
+        self.assertEqual(names, {"p", "q", "r", "split1", "split2"})
+        self.assertEqual(len(after), 5)
 
     def test_a_part_that_shares_nothing_is_an_atom(self):
         after = split(rules("(<= (p ?a) (e ?a a) (e ?b ?c))"))

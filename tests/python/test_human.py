@@ -328,6 +328,10 @@ class Seats(unittest.TestCase):
     def test_nothing_is_answered_for_a_person_that_is_not_there(self):
         self.seat.page_opens(-1)
         self.assertEqual(self.seat.answer("(INFO)"), "busy")
+        with mock.patch.object(self.seat.changed, "wait_for") as waiting:
+            self.assertEqual(self.seat.answer(f"(START N oplayer ({RULES}) 60 86400)"), "ready")
+        self.assertLess(waiting.call_args.args[1], 60)
+        self.seat.leave("N")
         self.seat.page_opens(1)
         self.assertEqual(self.seat.answer("(INFO)"), "available")
         self.begin("oplayer")

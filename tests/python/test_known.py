@@ -191,6 +191,9 @@ class Files(InCache):
         # The head of the page has changed.
         self.plan.matches[0] = replace(self.plan.matches[0], again="cup-009", reason="x")
         self.assertEqual(self.written(), 1)
+        games = [replace(game, board="hex") for game in self.plan.competition.games]
+        self.plan.competition = replace(self.plan.competition, games=games)
+        self.assertEqual(self.written(), 3)
 
     def begin_first_match_later(self):
         """Changes the time when the first match begins in the log. On a busy computer, this need not be the first object of the log."""

@@ -1,5 +1,6 @@
 """How open matches are read: logs from the last position, and the referee's replies to the answers."""
 
+import errno
 import html
 import json
 import os
@@ -10,7 +11,7 @@ import unittest
 from unittest.mock import patch
 
 from ggp_tools.competition import live, live_board
-from ggp_tools.competition.files import locked
+from ggp_tools.competition.files import Folder, locked
 from ggp_tools.competition.live import Delay, Reader
 from ggp_tools.competition.live_board import NO_LINE, NO_VERDICT, TOO_LONG, LiveBoard
 from ggp_tools.competition.live_pages import now_part, open_row, replaced_part, state_html, turn_row
@@ -336,6 +337,10 @@ class Lines(InRoom):
         self.plan.folder.log(lacks.id).unlink()
         os.utime(self.plan.folder.record(lacks.id), (2_000, 2_000))
         reader = self.reader()
+        # A log that can't be opened for now is read later.
+        with patch.object(Folder, "part_of_log", side_effect=OSError(errno.EMFILE, "")):
+            look(reader)
+        self.assertEqual(reader.results, {})
         look(reader)
         self.assertEqual([move.match.id[-1] for move, _ in reader.last_replaced()], list("132"))
 

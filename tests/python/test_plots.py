@@ -46,4 +46,6 @@ class Plots(unittest.TestCase):
         xml.dom.minidom.parseString(plot)
         heights = [float(high) for high in re.findall(r'height="([0-9.]+)"/>', plot)]
         self.assertEqual(heights, [80.0, 26.7])
+        # A label is at the right end of its bar.
+        self.assertIn('<text x="78.9" y="114.0" text-anchor="middle">2 ms</text>', plot)
         self.assertEqual(times_plot([0] * BARS), "")

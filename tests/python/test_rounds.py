@@ -9,6 +9,7 @@ from collections import Counter
 from dataclasses import replace
 from unittest import mock
 
+from ggp_tools.competition import round_pages
 from ggp_tools.competition.competition_file import read_competition
 from ggp_tools.competition.files import Folder, Refused
 from ggp_tools.competition.growth import Again
@@ -16,7 +17,7 @@ from ggp_tools.competition.history import again_text
 from ggp_tools.competition.match_files import Check, unverified_result
 from ggp_tools.competition.pages import Site
 from ggp_tools.competition.plan import grows, make_plan, order_again, plan_next_round, read_plan, refuse_lost_results, round_words, rounds_left, sums_text
-from ggp_tools.competition.round_pages import count_of_all, round_text, rounds_part, rounds_words
+from ggp_tools.competition.round_pages import bracket_part, count_of_all, round_text, rounds_part, rounds_words
 from ggp_tools.competition.results import result_of
 from ggp_tools.competition.rounds import Round, bracket, matches_to_come, paired, rounds_of, scores_of
 from ggp_tools.competition.schedule import Match
@@ -151,6 +152,9 @@ class ByRounds(unittest.TestCase):
         self.assertEqual([" ".join(row) for row in rows][:4], [f"2 {both}", "2 p1 p2 1 : 1 40 : 60 2 of 2", "1 p3 p4 1 : 1 100 : 100 2 of 2", "1 p2 p5 1 : 1 100 : 100 2 of 2"])
         self.assertEqual([" ".join(row) for row in rows][4:], ["1 p0 (bye)   ", "1 p1 (bye)   "])
         self.assertIn("Round 2 of 3.", round_text(plan.competition, plan.matches[-1]))
+        # A bracket leaves out rounds with many pairs.
+        with mock.patch.object(round_pages, "MOST_PAIRS", 2):
+            self.assertEqual([head.text for head in parsed(bracket_part(plan, []).text)("h3")], ["Round 2", "Final"])
         plan_next_round(plan, results)
         self.assertEqual((count_of_all(plan), rounds_words(plan)), (10, " Round 3 of 3."))
 

@@ -93,11 +93,11 @@ class Tables(unittest.TestCase):
         self.assertIn("cup: 1 of 1 matches\n", files["table.txt"].decode())
         self.assertIn("* m does not count: m2 replaces it: the host's cable\n", files["table.txt"].decode())
 
-    def by_rounds(self, kind, rounds, results):
+    def by_rounds(self, kind, rounds, results, final=""):
         """Returns the tables of a competition in rounds. Each result is given by the players of a match, the goals, the round, and the match that
         replaces it."""
         players = [(name, f"h:{at + 1}") for at, name in enumerate(NAMES[:3])]
-        found = read_competition(toml(players, [("two", "f"), ("other", "f")], f'kind = "{kind}"' + "\nrounds = 2" * (kind == "swiss")).encode())
+        found = read_competition(toml(players, [("two", "f"), ("other", "f")], f'kind = "{kind}"' + "\nrounds = 2" * (kind == "swiss") + final).encode())
         made = [replace(played, match=replace(played.match, round=number, again=again)) for played, number, again in ((result(names, goals), number, again) for names, goals, number, again in results)]
         return tables_of(found, made, rounds)
 
@@ -111,6 +111,9 @@ class Tables(unittest.TestCase):
         # The tables of single games have no rounds.
         self.assertEqual([(of.player, of.byes, of.points()) for of in two.standings()], [("ann", 0, 2.5), ("bob", 0, 0.5), ("cid", 0, 0)])
         self.assertEqual((two.by, two.rounds, other.standings()), ("points", (), []))
+        # A bye of the final is not counted.
+        whole, *_ = self.by_rounds("swiss", [*rounds, Round(3, (("cid", "ann"),), ("bob",))], results, "\nfinal = 3")
+        self.assertEqual([(of.player, of.byes) for of in whole.standings()], [("bob", 1), ("cid", 1), ("ann", 0)])
 
     def test_who_had_a_bye_alone_stands_in_the_table(self):
         whole, *_ = self.by_rounds("swiss", [Round(1, (("ann", "bob"),), ("cid",))], [])
