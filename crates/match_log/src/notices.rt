@@ -123,7 +123,7 @@ impl LogState {
         }
         self.missing = unwritten(stream, &waiting.log);
         if self.missing > 0 && reported > 0 {
-            // The last text line is not an object. The objects that it reports are missing instead.
+            // The last text line only counts the objects that were left out. These objects are missing instead of the line.
             self.missing = (self.missing - 1).saturating_add(reported);
         }
     }

@@ -11,10 +11,10 @@ abbrev pub IsCharged : ℕ → ℕ → ℕ → Type 0
 IsCharged asked passed charged = ((passed - asked ≤ min (asked / 8 + 100000000) max_nanos) × (charged ≡ passed))
     ⊎ ((min (asked / 8 + 100000000) max_nanos < passed - asked) × (charged ≡ asked))
 
--- What a read does, given the time that is left and how many final reads are left: it waits for half the time, sleeps through the last 20
--- milliseconds, and then takes the bytes that are there.
+-- What a read does, given the time that is left and how many final reads are left: it waits for half the time, at most ten seconds, sleeps
+-- through the last 20 milliseconds, and then takes the bytes that are there.
 abbrev pub IsStep : ℕ → ℕ → Step → Type 0
-IsStep left looks (Waits time) = (20000000 < left) × (as_nanos time ≡ left / 2)
+IsStep left looks (Waits time) = (20000000 < left) × (as_nanos time ≡ min 10000000000 (left / 2))
 IsStep left looks (Sleeps time) = (0 < left) × ((left ≤ 20000000) × (as_nanos time ≡ left))
 IsStep left looks Looks = (left ≡ 0) × (0 < looks)
 IsStep left looks Ends = (left ≡ 0) × (looks ≡ 0)

@@ -30,8 +30,13 @@ const LAST_MILLIS: u64 = 20;
 /// When the time is over, this many reads may still take bytes that have arrived. Together they can take the longest answer.
 const LOOKS: u32 = 64;
 
+/// The longest wait for bytes, in seconds. The system ends a longer one up to an eighth too late, so a pause would not show.
+const LONGEST_WAIT_SECONDS: u64 = 10;
+
 /// If a wait for an answer takes at least this many seconds longer than requested, this computer may have been paused, and an answer lost.
 const PAUSE_SECONDS: u64 = 2;
+
+const _: () = prove!(LONGEST_WAIT_SECONDS * 1_000 / 8 + STALL_MILLIS < PAUSE_SECONDS * 1_000);
 
 /// How many seconds longer a message waits in total, because this computer may have been paused.
 const MAX_GRACE_SECONDS: u64 = 120;
@@ -226,13 +231,13 @@ impl Step {
     }
 }
 
-/// The next step of a read, given the time that is left and how many final reads are left. A wait takes half the time, because the system may
-/// end it an eighth too late.
+/// The next step of a read, given the time that is left and how many final reads are left. A wait takes at most half the time, because the
+/// system may end it too late.
 fn step_at(left: Duration, looks: u32) -> Step
     ensures { IsStep (as_nanos left) looks result }
 {
     if left > Duration::from_millis(LAST_MILLIS) {
-        Step::Waits(left / 2)
+        Step::Waits((left / 2).min(Duration::from_secs(LONGEST_WAIT_SECONDS)))
     } else if !left.is_zero() {
         Step::Sleeps(left)
     } else if looks > 0 {
