@@ -168,7 +168,7 @@ class Lines:
         return 2 if isinstance(condition, Either) else 0
 
     def texts(self, relation: tuple, arguments: list, bound: dict[str, str]) -> list[str]:
-        """Returns expressions for the arguments of a query. If the relation queries itself, terms may grow, so `low` limits their depth."""
+        """Returns expressions for the arguments of a query. If the relation depends on its own negation, terms may grow, so `low` limits their depth."""
         may_grow = relation in self.program.relations.denying
         pairs = [(argument, term_text(argument, bound)) for argument in arguments]
         return [f"low({text})" if may_grow and is_built(argument) else text for argument, text in pairs]
