@@ -111,6 +111,8 @@ pub struct Deadline {
     /// The time that was left when the program last continued after a stop. `None` if it was not stopped since the beginning of the last
     /// attempt to connect.
     pub(crate) stopped_at: Option<Duration>,
+    /// When the first wait began that may hide a pause of this computer.
+    paused_at: Option<Instant>,
     /// How much longer the message may wait because this computer may have been paused.
     grace: Duration,
     /// How many reads may still take bytes that have arrived when the time is over.
@@ -128,6 +130,7 @@ impl Deadline {
                 seen,
                 left: Duration::from_secs(u64::from(seconds)),
                 stopped_at: None,
+                paused_at: None,
                 grace: Duration::from_secs(MAX_GRACE_SECONDS),
                 looks: LOOKS,
             }),
@@ -178,16 +181,18 @@ impl Deadline {
         }
     }
 
-    /// Gives the message at least as much time as a step took that was much longer than requested. If this computer was paused, the player's
-    /// system repeats an answer that was lost. It doubles the time between two attempts, so the next one can take as long as the pause.
-    fn extend(&mut self, asked: Duration, passed: Duration)
-        ensures least { as_nanos self.old.left ≤ as_nanos self.new.left }
-        ensures most { as_nanos self.new.left ≤ max (as_nanos self.old.left) (as_nanos passed) }
+    /// If a wait that began at `begun` was much longer than requested, gives the message at least as much time as has passed since the first
+    /// such wait began. If this computer was paused, the player's system repeats an answer that was lost. It doubles the time between two
+    /// attempts, so the next one can take as long as all attempts before.
+    fn extend(&mut self, asked: Duration, begun: Instant)
+        ensures { as_nanos self.old.left ≤ as_nanos self.new.left }
     {
-        if passed.saturating_sub(asked) < Duration::from_secs(PAUSE_SECONDS) {
+        if (self.seen - begun).saturating_sub(asked) < Duration::from_secs(PAUSE_SECONDS) {
             return;
         }
-        let longer = passed
+        let first = self.paused_at.unwrap_or(begun);
+        self.paused_at = Some(first);
+        let longer = (self.seen - first)
             .min(self.left.saturating_add(self.grace))
             .max(self.left);
         self.grace = self.grace.saturating_sub(longer.saturating_sub(self.left));
@@ -309,7 +314,7 @@ fn wait_for_bytes<C: Clock, S: OpenStream>(
         if let Err(ContactFault::Shortage(shortage)) = deadline.after(clock, step.asked()) {
             return Ok(Some(ContactFault::Shortage(shortage)));
         }
-        deadline.extend(step.asked(), deadline.seen - begun);
+        deadline.extend(step.asked(), begun);
         if is_there? {
             return Ok(None);
         }
@@ -387,10 +392,11 @@ impl<C: Clock, S: Read + OpenStream> Read for TimedStream<'_, C, S> {
         ensures counts { OnOk result (self.new.halt ≡ None) }
         ensures late { IfErr result (λ error. IsTimeOut (error_kind error) (raw_os_error error) → IsSome self.new.halt) }
     {
-        let stopped_at = self.deadline.stopped_at;
+        let (stopped_at, grace) = (self.deadline.stopped_at, self.deadline.grace);
         let waited = wait_for_bytes(self.clock, &self.stream, &mut self.deadline);
-        // Only a stop before the request was written can make a player give up.
-        self.deadline.stopped_at = stopped_at;
+        // Only a stop before the request was written can make a player give up. It is not more recent because the message got more time.
+        let longer = grace.saturating_sub(self.deadline.grace);
+        self.deadline.stopped_at = stopped_at.map(|at| at.saturating_add(longer));
         match waited {
             Ok(None) => {}
             Ok(Some(halt)) => return Err(self.halted(halt)),
