@@ -181,6 +181,8 @@ class CompetitionFile(unittest.TestCase):
                 self.assertEqual([mistakes_of(GOOD.replace(old, new.format(number)).encode()) for number in (least, most)], [[], []])
                 for number in (least - 1, most + 1):
                     self.assert_told(GOOD.replace(old, new.format(number)), [(line, key, f"from {least:,} to {most:,}, found {number}")])
+        for port in (1, 65_535):
+            self.assertEqual(mistakes_of(GOOD.replace("[::1]:9148", f"host:{port}").encode()), [], port)
 
     def test_an_address_with_its_zone(self):
         found = read_competition(GOOD.replace("[::1]", "[fe80::1%eth0.7]").encode())

@@ -4,6 +4,7 @@ import os
 import pathlib
 import tempfile
 import unittest
+from unittest import mock
 
 from ggp_tools.competition.files import Folder, Refused
 from ggp_tools.competition.growth import Again
@@ -42,7 +43,8 @@ class Histories(unittest.TestCase):
         table.write_text("game,player,goals\nall games,cid,9\n\nall games,eve,8\nall games,bob,7\nnim,dan,9\n")
         self.assertEqual([player.name for player in seeded(competition, table).players], ["cid", "bob", "ann", "dan"])
         table.write_text("game,player\n")
-        self.assertEqual(seeded(competition, table), competition)
+        with mock.patch("ggp_tools.competition.history.MOST_OF_PLANNED", 12):
+            self.assertEqual(seeded(competition, table), competition)
         for wrong in (b"", b"the players of last year\n", b"game\nall games\n", b"player\nann\n", b"game,player\nall games\n", "game,player\nall games,ännchen\n".encode()):
             table.write_bytes(wrong)
             self.assertEqual(str(raised(Refused, seeded, competition, table)), f"{table} is not a table.csv that `ggp_competition table` writes")
@@ -101,6 +103,8 @@ class Histories(unittest.TestCase):
         self.assertEqual(text.splitlines()[:2], [b"match\tinstead of\treason", b"cup-5\tcup-1\ta  reason"])
         self.folder.again.write_bytes(text)
         self.assertEqual((read_again(self.folder), read_history(self.folder, COMPETITION).again), (orders, orders))
+        with mock.patch("ggp_tools.competition.history.MOST_OF_PLANNED", len(text)):
+            self.assertEqual(read_again(self.folder), orders)
         self.assertEqual(history_files(self.folder), [self.folder.again])
         self.add_earlier("6.toml")
         self.assertEqual(history_files(self.folder), [self.folder.earlier / "6.toml", self.folder.again])

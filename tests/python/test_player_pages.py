@@ -5,7 +5,7 @@ from dataclasses import replace
 from unittest import mock
 
 from ggp_tools.competition.player_pages import MoveError, appearances_of, errors_part, longest_text, player_parts, reason_of, standing_texts
-from ggp_tools.competition.plots import BARS, bar_of, times_plot
+from ggp_tools.competition.plots import BARS, bar_of, goals_plot, times_plot
 from ggp_tools.competition.results import result_of
 from ggp_tools.competition.schedule import Match
 from ggp_tools.competition.table import Line, Table
@@ -87,6 +87,7 @@ class Appearances(unittest.TestCase):
         self.assertEqual(parts["seats"]["rows"], [("nim", "x", ["2", "100.00", "24 of 24", "30 ms", "3 ms"])])
         self.assertEqual([(match, error.turn) for match, error, _ in parts["errors"]["rows"]], [(name, turn) for name in ("cup-001", "cup-003") for turn in range(12, 2, -1)])
         self.assertEqual(parts["errors"]["count"], 24)
+        self.assertEqual(parts["goals"]["plot"], goals_plot([100, 100]))
         self.assertEqual(parts["times"]["plot"], times_plot([[bar_of(1), bar_of(3)].count(bar) for bar in range(BARS)]))
         with mock.patch("ggp_tools.competition.player_pages.part") as made:
             errors_part(found[:1] * 11)

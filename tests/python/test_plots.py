@@ -4,7 +4,7 @@ import re
 import unittest
 import xml.dom.minidom
 
-from ggp_tools.competition.plots import BARS, MOST_POINTS, bar_of, goals_plot, rating_plot, sampled, times_plot
+from ggp_tools.competition.plots import BARS, MOST_POINTS, MOST_ROWS, bar_of, goals_plot, rating_plot, sampled, ticks, times_plot
 from ggp_tools.competition.ratings import rated
 from ggp_tools.competition.table import Line
 
@@ -24,6 +24,14 @@ class Plots(unittest.TestCase):
         self.assertIn("&lt;c&gt;", plot)
         self.assertEqual(rating_plot(lines[:1]), "")
         self.assertEqual(rating_plot([Line("a"), Line("b")]), "")
+        # Each player has a row of 20, and the last row has the ticks.
+        plot = rating_plot(lines * MOST_ROWS)
+        self.assertEqual((len(circles(plot)), re.findall('viewBox="([^"]+)"', plot)), (MOST_ROWS, ["0 0 640 2020.0"]))
+
+    def test_ticks(self):
+        wanted = ((0, 4), [0, 1, 2, 3, 4]), ((0, 5), [0, 2, 4]), ((-7, 12), [-5, 0, 5, 10]), ((0, 49), [0, 10, 20, 30, 40]), ((3, 3), [3])
+        for ends, values in wanted:
+            self.assertEqual(list(ticks(*ends)), values, ends)
 
     def test_goals(self):
         plot = goals_plot([0, 100, 50])
@@ -31,6 +39,8 @@ class Plots(unittest.TestCase):
         heights = [y for _, y in circles(plot)]
         self.assertEqual(heights, [100.0, 10.0, 55.0])
         self.assertIn('<polyline class="line" points="34.0,100.0 332.0,55.0 630.0,55.0"/>', plot)
+        self.assertIn("goals of 3 matches, and their mean, at last 50.0", goals_plot([100, 50, 0]))
+        self.assertEqual(re.findall('y="([0-9.]+)" text-anchor="end">([0-9]+)<', plot), [("104.0", "0"), ("59.0", "50"), ("14.0", "100")])
         self.assertEqual((goals_plot([]), goals_plot([100])), ("", ""))
         self.assertLess(len(goals_plot([0, 100] * 50_000)), 40_000)
 
@@ -48,4 +58,5 @@ class Plots(unittest.TestCase):
         self.assertEqual(heights, [80.0, 26.7])
         # A label is at the right end of its bar.
         self.assertIn('<text x="78.9" y="114.0" text-anchor="middle">2 ms</text>', plot)
+        self.assertEqual(re.findall(">([0-9]+ m?s)<", plot), ["2 ms", "8 ms", "32 ms", "128 ms", "512 ms", "2 s", "8 s", "32 s"])
         self.assertEqual(times_plot([0] * BARS), "")

@@ -350,6 +350,15 @@ class ByRounds(unittest.TestCase):
                 self.assertEqual((plan.known, plan.matches[1:-1]), (len(before.matches), before.matches[1:]))
                 self.assertEqual([(match.id, match.instead_of) for match in plan.matches[-1:]], [(new, "cup-001")])
                 self.assertEqual((self.read().matches, self.make().matches), (plan.matches, plan.matches))
+                if not plan.rounds:
+                    self.assertEqual(count_of_all(plan), len(before.matches))
+                    continue
+                # On the pages, the pair of cup-001 has one match left, so neither player advances.
+                results = list(self.play(before).values())
+                results = [replace(found, match=match) for match, found in zip(plan.matches, results)]
+                shown = {tuple(row[1:3]): row[-1] for row in rows_of(parsed(rounds_part(plan, results, 9).text))[1:]}
+                self.assertEqual([shown.pop(plan.matches[0].players), *shown.values()], ["1 of 2", "2 of 2"])
+                self.assertEqual(len(parsed(bracket_part(plan, results).html()).select(".through")), "knockout" in form)
 
     def test_it_grows_where_the_schedule_is_missing(self):
         for form in (SWISS.format(2), 'kind = "round_robin"'):

@@ -8,7 +8,7 @@ from collections import Counter
 
 from ggp_tools.competition.command import counts_of_game
 from ggp_tools.competition.competition_file import Mistaken, read_competition
-from ggp_tools.competition.schedule import MOST_MATCHES, circle_steps, id_in, matches_in, refuse_too_many, schedule_text
+from ggp_tools.competition.schedule import MOST_MATCHES, circle_steps, id_in, id_of, matches_in, refuse_too_many, schedule_text
 from planning import planned
 from support import raised, toml
 
@@ -144,6 +144,8 @@ class Schedule(unittest.TestCase):
 
     def test_which_rows_of_a_schedule_are_matches(self):
         competition = read_competition(toml([("p0", "h:1"), ("p1", "h:2")], [("g0", "f", "start = 3")]).encode())
+        # The first 12 letters in base 32 of `printf %s cup-001 | openssl dgst -sha256 -hmac KEY -binary`.
+        self.assertEqual(id_of(competition, 1, 3, b"KEY"), "cup-001-e4vhcg25rtia")
         found = planned(competition, {"g0": 2})
         text = schedule_text(found) + b"cup-003\tg1\t3\t10\tp0 p1\ncup-004\tg0\t3\t10\tp0 p2\ncup-005\tg0\t3\tp0 p1\n\x1b\n"
         self.assertEqual(matches_in(text.splitlines(keepends=True), competition), found)
@@ -154,6 +156,9 @@ class Schedule(unittest.TestCase):
                          [("games.file", "g0 has 3 roles, but the competition has 2 players"), ("games.file", "g1 has 3 roles, but the competition has 2 players")])
         why = raised(Mistaken, matches, 3, 2, 'kind = "schedule"\nlines = ["g0 p1 p2",\n"g0 p1"]')
         self.assertEqual([(mistake.line, mistake.words) for mistake in why.mistakes], [(5, "g0 has 2 roles, but the line names 1 player")])
+        # A game that no line names may have more roles than there are players.
+        competition = read_competition(toml([("p0", "h:1"), ("p1", "h:2")], [("g0", "f"), ("g1", "f")], 'kind = "schedule"\nlines = ["g0 p1 p0"]').encode())
+        self.assertEqual([match.players for match in planned(competition, {"g0": 2, "g1": 3})], [("p1", "p0")])
         with self.assertRaises(Mistaken):
             matches(1000, 2)
         for kind in ("swiss\"\nrounds = 1", "knockout\""):
