@@ -303,6 +303,12 @@ def test_a_file_of_rules_that_is_refused_is_named(tmp_path: pathlib.Path, name: 
     assert said.stderr.endswith(f"ggp_manager: {error}\n")
 
 
+def test_large_applies_to_each_game(tmp_path: pathlib.Path) -> None:
+    (tmp_path / "large.kif").write_text(TICTACTOE.read_text(encoding="ascii") + "\n" * 1_048_576, encoding="ascii")
+    with serving(tmp_path, "--large", f"--rules-file={tmp_path}/large.kif", game=f"--rules-file={TICTACTOE}") as service:
+        assert service.ask(b"query m1\n") == b"refused nomatch\n"
+
+
 TWO_USES = {
     "records": "bad file of records: another file or stream of this command is the same file",
     "history": "bad file of calls: another file or stream of this command is the same file",
